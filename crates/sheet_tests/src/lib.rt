@@ -1,0 +1,13 @@
+// What sheets and job files do, on examples.
+#[cfg(test)]
+mod drafting;
+#[cfg(test)]
+mod listings;
+#[cfg(test)]
+mod reading;
+#[cfg(test)]
+mod records;
+#[cfg(test)]
+mod worked;
+#[cfg(test)]
+mod writing;
