@@ -7,6 +7,7 @@ ghost use Rattle.steps.specs.Sheet.{Rooted, Descending, Timed, Priced, Crewed};
 use steps::limits::MAX_STEPS;
 use steps::step::Step;
 
+mod asking;
 mod crew;
 mod drafting;
 mod files;

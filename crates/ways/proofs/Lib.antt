@@ -1,0 +1,5 @@
+pub mod Suffixes
+pub mod Counts
+pub mod Lower
+pub mod Upper
+pub mod LeastRight

@@ -1,0 +1,5 @@
+pub mod Ways
+pub mod Measures
+pub mod Figures
+pub mod Least
+pub mod Taken
