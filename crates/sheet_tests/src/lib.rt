@@ -2,6 +2,8 @@
 #[cfg(test)]
 mod drafting;
 #[cfg(test)]
+mod leasts;
+#[cfg(test)]
 mod listings;
 #[cfg(test)]
 mod reading;
