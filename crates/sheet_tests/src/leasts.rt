@@ -1,4 +1,7 @@
-// Least figures of the worked sheet.
+// Least figures of the worked sheet, and of small sheets whose ways are enumerated.
+use crate::sheets;
+use crate::skewed::Skewed;
+use crate::skewed::SkewedMeasure;
 use crate::worked::FILE;
 use crate::worked::replaced;
 use least::Entry;
@@ -100,6 +103,25 @@ fn filled_table() -> Result<(), Fail> {
     ];
     for (entry, pair) in table.iter().zip(expected.iter()) {
         check_eq((entry.found, entry.figure), *pair)?;
+    }
+    Ok(())
+}
+
+#[test]
+fn enumerated() -> Result<(), Fail> {
+    for (i, (file, expected)) in sheets::SHEETS.iter().enumerate() {
+        let mut sheet = Draft::new().issue();
+        check(sheet.read(file).is_ok())?;
+        let (minutes, number) = told(&sheet, &Minutes);
+        let (chain, _) = told(&sheet, &Chain);
+        let (fees, _) = told(&sheet, &Fees);
+        let (skewed, _) = told(&sheet, &Skewed);
+        let figures = if number == 0 {
+            Some((minutes, chain, fees, skewed))
+        } else {
+            None
+        };
+        check_eq(figures, *expected).note(format_args!("sheet {i}"))?;
     }
     Ok(())
 }

@@ -10,6 +10,10 @@ mod reading;
 #[cfg(test)]
 mod records;
 #[cfg(test)]
+mod sheets;
+#[cfg(test)]
+mod skewed;
+#[cfg(test)]
 mod worked;
 #[cfg(test)]
 mod writing;
