@@ -1,5 +1,5 @@
 -- The lines of a listing: their lengths, and one line more.
-use mathlib.Core.Path.{_≡_, sym, ap, subst, _∙_}
+use mathlib.Core.Path.{_≡_, refl, sym, ap, subst, _∙_}
 use mathlib.Core.List.{List, [], _∷_, _++_}
 use mathlib.Core.Bool.{Bool, true, false, cond}
 use mathlib.Core.Logic.{inl, inr}
@@ -12,16 +12,26 @@ use lib.ListN.{length, getD, take, drop}
 use Rattle.std.proofs.shelf.Decimals.{length-decimal-le}
 use Rattle.std.proofs.shelf.Lists.{append-assoc, append-nil, length-append, length-take-le, take-more, take-append-drop}
 use Rattle.std.proofs.shelf.Tests.{cases-eq}
+use Rattle.std.specs.Options.{mapped}
 use Rattle.std.specs.Written.{decimal}
+use Rattle.std.specs.declared.option.Option.{Option}
+use Rattle.std.specs.declared.option.Option.the-variants.{Some, None}
+use Rattle.steps.proofs.Clashes.{clash}
 use Rattle.steps.specs.declared.step.Join.{Join}
 use Rattle.steps.specs.declared.step.Join.the-variants.{And, Or}
 use Rattle.steps.specs.declared.step.Step.{Step}
 use Rattle.steps.specs.Limits.{max-steps, max-minutes, max-fee, no-target}
 use Rattle.steps.specs.Sheet.{Sheet, step, WellFormed}
-use Rattle.listing.specs.Text.{newline, crewLine, targetText, joinText, stateText, stepLine, stepLines, closedCount, countLine, listing, turnedDown, listing-bytes}
+use Rattle.ways.specs.Least.{unless-closed, least-of}
+use Rattle.ways.specs.Measures.{numbers}
+use Rattle.measures.specs.Meanings.{max-sum, sum, minutes-meaning, chain-meaning, fees-meaning}
+use Rattle.listing.specs.Text.{newline, crewLine, targetText, joinText, stateText, stepLine, stepLines, closedCount, countLine, sheetLines, together, leastFigures, leastLine, listing, turnedDown, listing-bytes}
 
 three : (a b c : List ℕ) → length (a ++ b ++ c) ≡ length a + length b + length c
 three a b c = simp length-append
+
+four : (a b c d : List ℕ) → length (a ++ b ++ c ++ d) ≡ length a + length b + length c + length d
+four a b c d = simp length-append
 
 -- the length of a line, by its pieces
 pub length-step-line : (i : ℕ) (s : Step) → length (stepLine i s) ≡ length (codes "step " ++ decimal i) + length (targetText (s .target)) + length (joinText (s .join)) + length (codes " minutes " ++ decimal (s .minutes)) + length (codes " fee " ++ decimal (s .fee)) + length (stateText (s .closed)) + 1
@@ -32,9 +42,9 @@ length-step-line i s = six (codes "step " ++ decimal i) (targetText (s .target))
 
 pub length-count-line : (all closed : ℕ) → length (countLine all closed) ≡ length (codes "steps " ++ decimal all) + length (codes " open " ++ decimal (all - closed)) + length (codes " closed " ++ decimal closed) + 1
 length-count-line all closed = four (codes "steps " ++ decimal all) (codes " open " ++ decimal (all - closed)) (codes " closed " ++ decimal closed) newline
-  where
-    four : (a b c d : List ℕ) → length (a ++ b ++ c ++ d) ≡ length a + length b + length c + length d
-    four a b c d = simp length-append
+
+pub length-least-line : (minutes chain fees : ℕ) → length (leastLine (Some (minutes, chain, fees))) ≡ length (codes "least minutes " ++ decimal minutes) + length (codes " chain " ++ decimal chain) + length (codes " fees " ++ decimal fees) + 1
+length-least-line minutes chain fees = four (codes "least minutes " ++ decimal minutes) (codes " chain " ++ decimal chain) (codes " fees " ++ decimal fees) newline
 
 pub length-crew-line : (benches : ℕ) → length (crewLine benches) ≡ length (codes "crew " ++ decimal benches) + 1
 length-crew-line benches = length-append (codes "crew " ++ decimal benches) newline
@@ -71,8 +81,8 @@ lines-room ss i d h =
     let l = length-append (stepLines 0 (take i ss)) (stepLine i (getD ss i d)) in
     omega (arith, ap length (lines-more ss i d h), l, lines-part ss (i + 1))
 
-pub length-listing : (s : Sheet) → length (listing s) ≡ length (crewLine (s .benches)) + length (stepLines 0 (s .steps)) + length (countLine (length (s .steps)) (closedCount (s .steps)))
-length-listing s = three (crewLine (s .benches)) (stepLines 0 (s .steps)) (countLine (length (s .steps)) (closedCount (s .steps)))
+pub length-sheet-lines : (s : Sheet) → length (sheetLines s) ≡ length (crewLine (s .benches)) + length (stepLines 0 (s .steps)) + length (countLine (length (s .steps)) (closedCount (s .steps)))
+length-sheet-lines s = three (crewLine (s .benches)) (stepLines 0 (s .steps)) (countLine (length (s .steps)) (closedCount (s .steps)))
 
 -- how many are closed, one step more
 closed-append : (xs ys : List Step) → closedCount (xs ++ ys) ≡ closedCount xs + closedCount ys
@@ -125,6 +135,37 @@ short-turned-down n p a b =
     let e = length-decimal-le 20 p (omega arith) (omega arith) (omega arith) in
     omega (arith, l, d, e)
 
+-- a least figure is a sum that has stopped or not
+grown-most : (o : Option ℕ) (b n : ℕ) → mapped (λ x. sum x b) o ≡ Some n → n ≤ max-sum
+grown-most None b n h = clash (cc)
+grown-most (Some x) b n h = let same : sum x b ≡ n = cc in omega (arith, same)
+
+open-most : (closed : Bool) (o : Option ℕ) (b n : ℕ) → unless-closed closed (mapped (λ x. sum x b) o) ≡ Some n → n ≤ max-sum
+open-most true o b n h = clash (cc)
+open-most false o b n h = grown-most o b n h
+
+short-least : (f : Option (ℕ × ℕ × ℕ)) → ((g : ℕ × ℕ × ℕ) → f ≡ Some g → (g .0 ≤ max-sum) × (g .1 ≤ max-sum) × (g .2 ≤ max-sum)) → length (leastLine f) ≤ 60
+short-least None h = omega arith
+short-least (Some g) h =
+    let b = h g refl in
+    let d₀ = length-decimal-le 10 (g .0) (omega arith) (omega (arith, b .0)) (omega (arith, b .0)) in
+    let d₁ = length-decimal-le 10 (g .1) (omega arith) (omega (arith, b .1)) (omega (arith, b .1)) in
+    let d₂ = length-decimal-le 10 (g .2) (omega arith) (omega (arith, b .2)) (omega (arith, b .2)) in
+    omega (arith, length-least-line (g .0) (g .1) (g .2), d₀, d₁, d₂)
+
+together-parts : (a b c : Option ℕ) (g : ℕ × ℕ × ℕ) → together a b c ≡ Some g → (a ≡ Some (g .0)) × (b ≡ Some (g .1)) × (c ≡ Some (g .2))
+together-parts None b c g h = clash (cc)
+together-parts (Some x) None c g h = clash (cc)
+together-parts (Some x) (Some y) None g h = clash (cc)
+together-parts (Some x) (Some y) (Some z) g h =
+    let e : _≡_ {A = ℕ × ℕ × ℕ} (x, y, z) g = cc in
+    (ap (λ (v : ℕ × ℕ × ℕ). Some (v .0)) e, ap (λ (v : ℕ × ℕ × ℕ). Some (v .1)) e, ap (λ (v : ℕ × ℕ × ℕ). Some (v .2)) e)
+
+least-short : (ss : List Step) → length (leastLine (leastFigures ss)) ≤ 60
+least-short ss = short-least (leastFigures ss) (λ g h.
+    let p = together-parts (least-of (numbers minutes-meaning) ss 0) (least-of (numbers chain-meaning) ss 0) (least-of (numbers fees-meaning) ss 0) g h in
+    (open-most (step ss 0 .closed) _ (step ss 0 .minutes) (g .0) (p .0), open-most (step ss 0 .closed) _ (step ss 0 .minutes) (g .1) (p .1), open-most (step ss 0 .closed) _ (step ss 0 .fee) (g .2) (p .2)))
+
 -- every listing fits its buffer
 pub listing-fits : (s : Sheet) → WellFormed max-steps s → length (listing s) ≤ listing-bytes
 listing-fits s w =
@@ -138,4 +179,5 @@ listing-fits s w =
     let all = length-decimal-le 3 n (omega arith) (omega arith) (omega arith) in
     let still = length-decimal-le 3 (n - closedCount ss) (omega arith) (omega arith) (omega arith) in
     let closed = length-decimal-le 3 (closedCount ss) (omega arith) (omega arith) (omega arith) in
-    omega (arith, length-listing s, lines, length-crew-line (s .benches), crew, length-count-line n (closedCount ss), all, still, closed)
+    let ways = least-short ss in
+    omega (arith, length-append (sheetLines s) (leastLine (leastFigures ss)), ways, length-sheet-lines s, lines, length-crew-line (s .benches), crew, length-count-line n (closedCount ss), all, still, closed)

@@ -6,6 +6,8 @@ use lib.Chars.{codes}
 use lib.Dec.{ltb, eqb}
 use lib.ListN.{length, drop}
 use Rattle.std.specs.Written.{decimal}
+use Rattle.std.specs.declared.option.Option.{Option}
+use Rattle.std.specs.declared.option.Option.the-variants.{Some, None}
 use Rattle.std.specs.declared.result.Result.{Result}
 use Rattle.std.specs.declared.result.Result.the-variants.{Ok, Err}
 use Rattle.steps.specs.declared.refusal.Refusal.the-variants.{TableTooShort}
@@ -16,6 +18,9 @@ use Rattle.steps.specs.Limits.{max-steps, no-target}
 use Rattle.steps.specs.Numbers.{number}
 use Rattle.steps.specs.Sheet.{Sheet}
 use Rattle.job_format.specs.Decoding.{decode}
+use Rattle.ways.specs.Least.{least-of}
+use Rattle.ways.specs.Measures.{numbers}
+use Rattle.measures.specs.Meanings.{minutes-meaning, chain-meaning, fees-meaning}
 
 -- the end of a line
 abbrev pub newline : List ℕ
@@ -52,8 +57,26 @@ closedCount (s ∷ ss) = cond (s .closed) 1 0 + closedCount ss
 abbrev pub countLine : ℕ → ℕ → List ℕ
 countLine all closed = (codes "steps " ++ decimal all) ++ (codes " open " ++ decimal (all - closed)) ++ (codes " closed " ++ decimal closed) ++ newline
 
+-- what the sheet holds
+abbrev pub sheetLines : Sheet → List ℕ
+sheetLines s = crewLine (s .benches) ++ stepLines 0 (s .steps) ++ countLine (length (s .steps)) (closedCount (s .steps))
+
+-- the least minutes, chain and fees of the open ways
+abbrev pub together : Option ℕ → Option ℕ → Option ℕ → Option (ℕ × ℕ × ℕ)
+together None b c = None
+together (Some a) None c = None
+together (Some a) (Some b) None = None
+together (Some a) (Some b) (Some c) = Some (a, b, c)
+
+abbrev pub leastFigures : List Step → Option (ℕ × ℕ × ℕ)
+leastFigures ss = together (least-of (numbers minutes-meaning) ss 0) (least-of (numbers chain-meaning) ss 0) (least-of (numbers fees-meaning) ss 0)
+
+abbrev pub leastLine : Option (ℕ × ℕ × ℕ) → List ℕ
+leastLine None = codes "no open way" ++ newline
+leastLine (Some f) = (codes "least minutes " ++ decimal (f .0)) ++ (codes " chain " ++ decimal (f .1)) ++ (codes " fees " ++ decimal (f .2)) ++ newline
+
 abbrev pub listing : Sheet → List ℕ
-listing s = crewLine (s .benches) ++ stepLines 0 (s .steps) ++ countLine (length (s .steps)) (closedCount (s .steps))
+listing s = sheetLines s ++ leastLine (leastFigures (s .steps))
 
 -- what is said of a file that is refused by a number at a place
 abbrev pub turnedDown : ℕ × ℕ → List ℕ

@@ -2,14 +2,30 @@
 ghost use mathlib.Core.Path.{_≡_};
 ghost use Prim.Native.Nat.{_+_, _≤_};
 ghost use lib.ListN.{length};
+ghost use Rattle.steps.specs.Limits.{max-steps};
 ghost use Rattle.steps.specs.Numbers.{number, told};
 ghost use Rattle.steps.specs.Sheet.{sheetOf};
+ghost use Rattle.std.specs.Options.{mapped};
+ghost use Rattle.std.specs.declared.option.Option.the-variants.{Some};
 ghost use Rattle.buffer.specs.Put.{put};
-ghost use Rattle.listing.specs.Text.{crewLine, targetText, joinText, stateText, stepLine, countLine, closedCount, listing, turnedDown, listingAnswer, listingAfter};
+ghost use Rattle.ways.specs.Least.{least-of};
+ghost use Rattle.ways.specs.Measures.{numbers};
+ghost use Rattle.sheet.specs.Model.{issuedSheet};
+ghost use Rattle.listing.specs.Text.{crewLine, targetText, joinText, stateText, stepLine, countLine, closedCount, sheetLines, leastFigures, leastLine, turnedDown, listingAnswer, listingAfter};
 use buffer::put_bytes;
 use buffer::put_field;
 use jobfile::record::Fault;
+use least::Entry;
+use measures::Chain;
+use measures::ChainMeasure;
+use measures::Fees;
+use measures::FeesMeasure;
+use measures::Measure;
+use measures::Minutes;
+use measures::MinutesMeasure;
 use sheet::Draft;
+use sheet::Issued;
+use steps::limits::MAX_STEPS;
 use steps::limits::NO_TARGET;
 use steps::refusal::Refusal;
 use steps::step::Join;
@@ -28,7 +44,10 @@ pub fn list_job(file: &[u8], buffer: &mut [u8]) -> Result<usize, Refusal>
     }
     let mut sheet = Draft::new().issue();
     match sheet.read(file) {
-        Ok(()) => Ok(put_listing(buffer, sheet.steps(), sheet.benches())),
+        Ok(()) => {
+            let at = put_sheet(buffer, sheet.steps(), sheet.benches());
+            Ok(put_least(buffer, at, least_figures(&sheet)))
+        }
         Err(Fault { refusal, place }) => Ok(put_turned_down(buffer, refusal, place)),
     }
 }
@@ -44,16 +63,67 @@ fn put_turned_down(buffer: &mut [u8], refusal: Refusal, place: usize) -> usize
     put_bytes(buffer, at, b"\n")
 }
 
-fn put_listing(buffer: &mut [u8], steps: &[Step], benches: u8) -> usize
-    requires { ⌜ length (listing (sheetOf (now steps) benches)) ≤ length (now buffer) ⌝ }
-    ensures text { λ _. ⌜ now (buffer .exit) ≡ put (now (buffer .entry)) 0 (listing (sheetOf (now (steps .entry)) benches)) ⌝ }
-    ensures end { λ r. ⌜ r ≡ length (listing (sheetOf (now (steps .entry)) benches)) ⌝ }
+fn put_sheet(buffer: &mut [u8], steps: &[Step], benches: u8) -> usize
+    requires { ⌜ length (sheetLines (sheetOf (now steps) benches)) ≤ length (now buffer) ⌝ }
+    ensures text { λ _. ⌜ now (buffer .exit) ≡ put (now (buffer .entry)) 0 (sheetLines (sheetOf (now (steps .entry)) benches)) ⌝ }
+    ensures end { λ r. ⌜ r ≡ length (sheetLines (sheetOf (now (steps .entry)) benches)) ⌝ }
 {
     let mut at = put_crew(buffer, benches);
     for (i, step) in steps.iter().enumerate() {
         at = put_step(buffer, at, i, step);
     }
     put_counts(buffer, at, steps.len(), closed_count(steps))
+}
+
+// The least minutes, chain and fees of the open ways, if there is one.
+fn least_figures(sheet: &Issued) -> Option<(u32, u32, u32)>
+    ensures { λ r. ⌜ r ≡ leastFigures (issuedSheet (now (sheet .entry)) .steps) ⌝ }
+{
+    let blank = Entry {
+        found: false,
+        figure: 0,
+    };
+    let mut table = [blank; MAX_STEPS];
+    let minutes = least_figure(sheet, &Minutes, &mut table)?;
+    let chain = least_figure(sheet, &Chain, &mut table)?;
+    let fees = least_figure(sheet, &Fees, &mut table)?;
+    Some((minutes, chain, fees))
+}
+
+fn least_figure<M: Measure>(
+    sheet: &Issued,
+    measure: &M,
+    table: &mut [Entry<M::Figure>],
+) -> Option<M::Figure>
+    requires { ⌜ max-steps ≤ length (now table) ⌝ }
+    ensures { λ r. ⌜ mapped (M·Measure .number (now (measure .entry))) r ≡ least-of (numbers (M·Measure .meaning (now (measure .entry)))) (issuedSheet (now (sheet .entry)) .steps) 0 ⌝ }
+{
+    match sheet.least(measure, table) {
+        Ok(figure) => Some(figure),
+        Err(_) => None,
+    }
+}
+
+fn put_least(buffer: &mut [u8], at: usize, figures: Option<(u32, u32, u32)>) -> usize
+    requires { ⌜ at + length (leastLine figures) ≤ length (now buffer) ⌝ }
+    ensures text { λ _. ⌜ now (buffer .exit) ≡ put (now (buffer .entry)) at (leastLine figures) ⌝ }
+    ensures end { λ r. ⌜ r ≡ at + length (leastLine figures) ⌝ }
+{
+    match figures {
+        Some((minutes, chain, fees)) => put_figures(buffer, at, minutes, chain, fees),
+        None => put_bytes(buffer, at, b"no open way\n"),
+    }
+}
+
+fn put_figures(buffer: &mut [u8], at: usize, minutes: u32, chain: u32, fees: u32) -> usize
+    requires { ⌜ at + length (leastLine (Some (minutes, chain, fees))) ≤ length (now buffer) ⌝ }
+    ensures text { λ _. ⌜ now (buffer .exit) ≡ put (now (buffer .entry)) at (leastLine (Some (minutes, chain, fees))) ⌝ }
+    ensures end { λ r. ⌜ r ≡ at + length (leastLine (Some (minutes, chain, fees))) ⌝ }
+{
+    let at = put_field(buffer, at, b"least minutes ", minutes as u64);
+    let at = put_field(buffer, at, b" chain ", chain as u64);
+    let at = put_field(buffer, at, b" fees ", fees as u64);
+    put_bytes(buffer, at, b"\n")
 }
 
 fn closed_count(steps: &[Step]) -> usize

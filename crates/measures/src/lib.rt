@@ -3,6 +3,7 @@ ghost use mathlib.Core.Path.{_≡_};
 ghost use Prim.Native.Nat.{ℕ};
 ghost use lib.Dec.{leb};
 ghost use Rattle.ways.specs.Measures.{Meaning};
+ghost use Rattle.measures.specs.Plain.{Sums-plain};
 use ways::StepFacts;
 
 mod chain;
@@ -39,4 +40,11 @@ pub trait Measure {
 
     fn not_above(&self, a: Self::Figure, b: Self::Figure) -> bool
         ensures { λ r. ⌜ r ≡ leb (number (now (self .entry)) a) (number (now (self .entry)) b) ⌝ };
+}
+
+// On every sheet the sums of the three measures never stop.
+pub fn sums_stand() -> u8
+    ensures { λ _. ⌜ Sums-plain ⌝ }
+{
+    0
 }

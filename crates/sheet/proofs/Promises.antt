@@ -1,13 +1,13 @@
 -- What least's answer says of the open ways.
 use mathlib.Core.Path.{_≡_, refl, sym, ap, subst, _∙_}
-use mathlib.Core.List.{List, map}
+use mathlib.Core.List.{List}
 use mathlib.Core.Bool.{Bool, true, false, cond}
 use Prim.Native.Nat.{ℕ, _<_, _≤_}
 use native.Mathlib.Omega.{arith}
 use lib.Dec.{ltb}
 use lib.ListN.{length, getD}
 use Rattle.std.proofs.shelf.Lists.{getD-map}
-use Rattle.std.proofs.shelf.Tests.{cond-true, cond-false, lt-ltb, le-ltb}
+use Rattle.std.proofs.shelf.Tests.{cond-true, cond-false, le-ltb}
 use Rattle.std.specs.declared.option.Option.{Option}
 use Rattle.std.specs.declared.option.Option.the-variants.{Some, None}
 use Rattle.std.specs.declared.result.Result.{Result}
@@ -25,14 +25,15 @@ use Rattle.least.specs.declared.Entry.{Entry}
 use Rattle.least.specs.Entries.{Shown, shown, entry-for, Filled}
 use Rattle.sheet.specs.Least.{toldFigure, reported, leastAnswer, Shut, LeastPromise}
 
-ok-some : (short : Bool) (e : ℕ) (o : Option ℕ) (n : ℕ) → cond short (Err e) (reported o) ≡ Ok n → o ≡ Some n
+-- a figure is reported where there is one, and a refusal where there is none
+pub ok-some : (short : Bool) (e : ℕ) (o : Option ℕ) (n : ℕ) → cond short (Err e) (reported o) ≡ Ok n → o ≡ Some n
 ok-some true e o n h = clash (cc)
 ok-some false e None n h = clash (cc)
 ok-some false e (Some k) n h = let same : k ≡ n = cc in ap Some same
 
-err-none : (o : Option ℕ) → reported o ≡ Err (number NoOpenWay) → o ≡ None
-err-none None h = refl
-err-none (Some k) h = clash (cc)
+pub err-none : (o : Option ℕ) (e : ℕ) → reported o ≡ Err e → o ≡ None
+err-none None e h = refl
+err-none (Some k) e h = clash (cc)
 
 module _ (F : Type 0) (m : Meaning) (figureNumber : F → ℕ) (ss : List Step) (before after : List (Entry F)) where
   -- the entry that is read of step 0, by its found mark
@@ -61,7 +62,7 @@ module _ (F : Type 0) (m : Meaning) (figureNumber : F → ℕ) (ss : List Step) 
       least = λ n e. least-reported m ss n (subst (IsLeast (numbers m) ss 0) (ok-some (ltb (length before) (length ss)) (number TableTooShort) (least-of (numbers m) ss 0) n (sym answer ∙ e)) (right 0 some));
       none = λ room.
           let said = answer ∙ cond-false (ltb (length before) (length ss)) _ _ (le-ltb (length before) (length ss) room) in (
-            λ e. subst (IsLeast (numbers m) ss 0) (err-none (least-of (numbers m) ss 0) (sym said ∙ e)) (right 0 some),
+            λ e. subst (IsLeast (numbers m) ss 0) (err-none (least-of (numbers m) ss 0) (number NoOpenWay) (sym said ∙ e)) (right 0 some),
             λ shut. said ∙ ap reported (shut-none (least-of (numbers m) ss 0) (right 0 some) shut),
           );
     }

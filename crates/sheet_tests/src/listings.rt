@@ -19,10 +19,10 @@ const LISTINGS: [(usize, usize, &[u8], &str); 4] = [
 ];
 
 const CLOSED: &str =
-    "crew 2\nstep 0 target none join AND minutes 9999 fee 100000 cents closed\nsteps 1 open 0 closed 1\n";
+    "crew 2\nstep 0 target none join AND minutes 9999 fee 100000 cents closed\nsteps 1 open 0 closed 1\nno open way\n";
 
 const WORKED: &str =
-    "crew 2\nstep 0 target none join AND minutes 2 fee 0 cents open\nstep 1 target 0 join OR minutes 1 fee 0 cents open\nstep 2 target 0 join AND minutes 4 fee 0 cents open\nstep 3 target 1 join AND minutes 6 fee 0 cents open\nstep 4 target 1 join AND minutes 1 fee 0 cents open\nstep 5 target 4 join AND minutes 3 fee 0 cents open\nstep 6 target 4 join AND minutes 3 fee 0 cents open\nsteps 7 open 7 closed 0\n";
+    "crew 2\nstep 0 target none join AND minutes 2 fee 0 cents open\nstep 1 target 0 join OR minutes 1 fee 0 cents open\nstep 2 target 0 join AND minutes 4 fee 0 cents open\nstep 3 target 1 join AND minutes 6 fee 0 cents open\nstep 4 target 1 join AND minutes 1 fee 0 cents open\nstep 5 target 4 join AND minutes 3 fee 0 cents open\nstep 6 target 4 join AND minutes 3 fee 0 cents open\nsteps 7 open 7 closed 0\nleast minutes 13 chain 7 fees 0\n";
 
 // The text stands at the front of the buffer, and the bytes behind it are kept.
 #[test]

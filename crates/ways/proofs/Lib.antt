@@ -3,3 +3,5 @@ pub mod Counts
 pub mod Lower
 pub mod Upper
 pub mod LeastRight
+pub mod Added
+pub mod Compared

@@ -3,3 +3,4 @@ pub mod Measures
 pub mod Figures
 pub mod Least
 pub mod Taken
+pub mod Sums

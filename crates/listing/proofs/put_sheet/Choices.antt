@@ -2,7 +2,7 @@
 use lib.ListN.{take}
 use Rattle.buffer.proofs.Puts.{Written}
 use Rattle.listing.specs.Text.{stepLines}
-use Rattle.listing.proofs.put_listing.Given as given
+use Rattle.listing.proofs.put_sheet.Given as given
 
 -- the lines of the steps so far stand behind the crew line
 abbrev pub Inv-loop-i : given.InvT-loop-i
