@@ -1,4 +1,6 @@
 // Writing text into a buffer of bytes, from a given place on. Each function answers the place behind what it wrote.
+#![tactic(auto)]
+
 ghost use Rattle.std.specs.Prelude.{◌≡◌, ◌+◌, ◌≤◌, ◌++◌, length, decimal};
 ghost use Rattle.buffer.specs.Put.{put};
 

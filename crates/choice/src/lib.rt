@@ -1,4 +1,6 @@
 // The choice of the planned way: the limits of a sheet, the way taken at each, and the best of these ways for a crew.
+#![tactic(auto)]
+
 ghost use Rattle.std.specs.Prelude.{◌≡◌, ℕ, ◌<◌, ◌≤◌, false, length, take, drop, slice_index_or};
 ghost use Rattle.steps.specs.Limits.{max_benches};
 ghost use Rattle.steps.specs.Sheet.{step};

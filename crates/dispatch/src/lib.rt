@@ -1,4 +1,6 @@
 // The timetable of a way: list scheduling of its steps on the benches, under a policy.
+#![tactic(auto)]
+
 mod looking;
 mod run;
 

@@ -1,4 +1,6 @@
 // The least figures of a sheet's steps, filled into a table in one pass from the highest step down.
+#![tactic(auto)]
+
 ghost use Rattle.std.specs.Prelude.{◌≡◌, ◌+◌, ◌<◌, ◌≤◌, length, drop, None};
 ghost use Rattle.steps.specs.Sheet.{Descending};
 ghost use Rattle.least.specs.Entries.{shown, entry_for, started, folded, finished, Filled};

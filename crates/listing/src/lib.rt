@@ -1,4 +1,6 @@
 // The listing of a job file: what it holds, as text, or why it is refused.
+#![tactic(auto)]
+
 ghost use Rattle.std.specs.Prelude.{◌≡◌, ◌+◌, ◌≤◌, length, Some};
 ghost use Rattle.steps.specs.Limits.{max_steps};
 ghost use Rattle.steps.specs.Numbers.{number, told};

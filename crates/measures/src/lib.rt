@@ -1,4 +1,6 @@
 // Measures of ways: what one is, and the three of the counter.
+#![tactic(auto)]
+
 ghost use Rattle.std.specs.Prelude.{◌≡◌, ℕ, leb};
 ghost use Rattle.ways.specs.Measures.{Meaning};
 ghost use Rattle.measures.specs.Plain.{SumsPlain};

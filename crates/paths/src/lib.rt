@@ -1,4 +1,6 @@
 // Tails: the minutes from a step to the hand-over.
+#![tactic(auto)]
+
 ghost use Rattle.std.specs.Prelude.{◌≡◌, ℕ, ◌<◌, ◌≤◌, ◌++◌, length, drop, slice_index};
 ghost use Rattle.steps.specs.Sheet.{Descending, Timed};
 ghost use Rattle.ways.specs.Paths.{tail};

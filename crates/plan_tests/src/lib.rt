@@ -1,4 +1,6 @@
 // Plans and timetables, on examples.
+#![tactic(auto)]
+
 #[cfg(test)]
 mod extremes;
 #[cfg(test)]

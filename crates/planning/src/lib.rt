@@ -1,4 +1,6 @@
 // A plan: the planned way of a sheet's steps, and its timetable under a policy.
+#![tactic(auto)]
+
 ghost use Rattle.std.specs.Prelude.{◌≡◌, ◌≤◌, length};
 ghost use Rattle.steps.specs.Limits.{max_steps};
 ghost use Rattle.steps.specs.Sheet.{sheet_of, WellFormed};

@@ -1,4 +1,6 @@
 // The planned way of a sheet: definitions, and what is proved of them.
+#![tactic(auto)]
+
 ghost use Rattle.plans.specs.Leaves.{LeavesRight};
 ghost use Rattle.plans.specs.Limits.{LimitsRight};
 ghost use Rattle.plans.specs.Chains.{TailsRight, ChainsRight};

@@ -1,4 +1,6 @@
 // Policies: which of the ready steps begins next.
+#![tactic(auto)]
+
 ghost use Rattle.std.specs.Prelude.{◌≡◌, ℕ, ◌<◌, true, List, length};
 ghost use Rattle.steps.specs.declared.ready.Ready.{Ready};
 ghost use Rattle.steps.specs.Placing.{Placing, rising};

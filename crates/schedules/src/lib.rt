@@ -1,4 +1,6 @@
 // Timetables on benches: the dispatch rule, and what is proved of it.
+#![tactic(auto)]
+
 ghost use Rattle.schedules.specs.Theorems.{DispatchValid, GreedyBound, DispatchBound, LowerBounds, FirstEndsLast, DispatchMeetsRule, RuleUnique};
 
 // Whatever the policy, dispatching gives a valid timetable.

@@ -1,4 +1,6 @@
 // What sheets and job files do, on examples.
+#![tactic(auto)]
+
 #[cfg(test)]
 mod drafting;
 #[cfg(test)]

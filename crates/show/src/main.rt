@@ -1,4 +1,6 @@
 // Prints what the job file on standard input holds, or why it is refused.
+#![tactic(auto)]
+
 use anyhow::anyhow;
 use jobfile::record::MAX_FILE;
 use listing::{LISTING_BYTES, list_job};

@@ -1,5 +1,7 @@
 // What every layer above has in common: a step and its join, the limits of a sheet, the refusals, a ready step as policies
 // are told of it, and a row of a timetable.
+#![tactic(auto)]
+
 pub mod limits;
 pub mod ready;
 pub mod refusal;

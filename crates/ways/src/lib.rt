@@ -1,4 +1,5 @@
 // The ways of a sheet, measures of them, and their least figures: definitions, and what is proved of them.
+#![tactic(auto)]
 
 // What a measure is told of a step.
 #[derive(Clone, Copy, PartialEq, Eq, Debug)]
