@@ -41,9 +41,9 @@ pub trait Changeable: Policy {
 
 // Sets all values to 0.
 pub fn clear<C: Changeable>(policy: &mut C)
-    ensures zeros { (step : ℕ) → step < kept_values → keeps policy.new step ≡ 0 }
-    ensures kept { rest policy.new ≡ rest policy.old }
-    ensures after { policy.new ≡ cleared put kept_values policy.old }
+    ensures zeros { (step : ℕ) → step < kept_values → C.keeps policy.new step ≡ 0 }
+    ensures kept { C.rest policy.new ≡ C.rest policy.old }
+    ensures after { policy.new ≡ cleared C.put kept_values policy.old }
 {
     for step in 0..KEPT_VALUES {
         let _ = policy.set(step as u16, 0);

@@ -4,8 +4,8 @@ use Rattle.buffer.proofs.Digits.{length_digit, length_digits, put_digit, put_dig
 use Rattle.buffer.proofs.+put_number.Goals as goal
 use Rattle.buffer.proofs.+put_number.Goals.{then-n-lt10, else-n-lt10}
 
-pub put-number-last-requires : goal.put-number-last-requires
-put-number-last-requires t c =
+pub put_number-last-requires : goal.put_number-last-requires
+put_number-last-requires t c =
     let e = length_digits c.args.n c.if-n-lt10.false (omega arith) in
     (omega arith, omega arith)
 
@@ -13,14 +13,14 @@ pub bounds-buffer-last : goal.bounds-buffer-last
 bounds-buffer-last t c =
     elim c.if-n-lt10.branch [
       | then-n-lt10 w ↦ omega (arith, w.last-is, length_digit c.args.n w.if-n-lt10.true)
-      | else-n-lt10 w ↦ omega (arith, w.last-is, w.put-number-last.ensures.end, length_digits c.args.n w.if-n-lt10.false (omega arith))
+      | else-n-lt10 w ↦ omega (arith, w.last-is, w.put_number-last.ensures.end, length_digits c.args.n w.if-n-lt10.false (omega arith))
     ]
 
-pub overflow-add-result : goal.overflow-add-result
-overflow-add-result t c =
+pub overflow_add-result : goal.overflow_add-result
+overflow_add-result t c =
     elim c.if-n-lt10.branch [
       | then-n-lt10 w ↦ omega (arith, w.last-is, length_digit c.args.n w.if-n-lt10.true)
-      | else-n-lt10 w ↦ omega (arith, w.last-is, w.put-number-last.ensures.end, length_digits c.args.n w.if-n-lt10.false (omega arith))
+      | else-n-lt10 w ↦ omega (arith, w.last-is, w.put_number-last.ensures.end, length_digits c.args.n w.if-n-lt10.false (omega arith))
     ]
 
 pub returns : goal.returns
@@ -41,9 +41,9 @@ returns t c =
           }
       | else-n-lt10 w ↦
           let more = length_digits n w.if-n-lt10.false (omega arith) in
-          let e = w.last-is ∙ w.put-number-last.ensures.end in
+          let e = w.last-is ∙ w.put_number-last.ensures.end in
           record {
-            text = ap (λ l. set l last digit) (w.buffer-is ∙ w.put-number-last.ensures.text)
+            text = ap (λ l. set l last digit) (w.buffer-is ∙ w.put_number-last.ensures.text)
                 ∙ put_digits xs at n last w.if-n-lt10.false (omega arith) e (omega arith);
             end = omega arith;
           }

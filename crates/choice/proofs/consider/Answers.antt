@@ -11,8 +11,8 @@ fits n few o s is_o w =
     let weighed : n * s.long ≤ (max_benches - 1) * (max_steps * max_minutes) = mul-le-mul {m₂ = max_steps * max_minutes} few (omega (arith, h)) in
     omega (arith, h, weighed)
 
-pub overflow-mul-score : goal.overflow-mul-score
-overflow-mul-score c = omega (arith, fits c.from.result (omega (arith, c.from.ensures, c.requires.few)) c.args.sums c.in-Some.sums c.in-Some.is c.requires.within)
+pub overflow_mul-score : goal.overflow_mul-score
+overflow_mul-score c = omega (arith, fits c.from.result (omega (arith, c.from.ensures, c.requires.few)) c.args.sums c.in-Some.sums c.in-Some.is c.requires.within)
 
-pub overflow-add-score : goal.overflow-add-score
-overflow-add-score c = omega (arith, fits c.from.result (omega (arith, c.from.ensures, c.requires.few)) c.args.sums c.in-Some.sums c.in-Some.is c.requires.within)
+pub overflow_add-score : goal.overflow_add-score
+overflow_add-score c = omega (arith, fits c.from.result (omega (arith, c.from.ensures, c.requires.few)) c.args.sums c.in-Some.sums c.in-Some.is c.requires.within)

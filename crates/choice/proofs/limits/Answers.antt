@@ -7,8 +7,8 @@ use Rattle.plans.specs.Limits.{insert_if, limits_from}
 use Rattle.choice.proofs.Listing.{limits_step, drop_further}
 use Rattle.choice.proofs.limits.Goals as goal
 
-pub insert-if-count-requires : goal.insert-if-count-requires
-insert-if-count-requires c = omega (arith, c.loop-i.invariant.2)
+pub insert_if-count-requires : goal.insert_if-count-requires
+insert_if-count-requires c = omega (arith, c.loop-i.invariant.2)
 
 pub loop-i-init : goal.loop-i-init
 loop-i-init c =
@@ -25,12 +25,12 @@ loop-i-preserved c =
     let next : c.loop-i.i ≡ suc i = omega arith in
     let inside : i < length ss = omega arith in
     let old = subst (λ j. take n ls ≡ limits_from ss j (drop j ss)) next c.loop-i.invariant.0 in (
-      c.insert-if-count.ensures.front
-          ∙ ap (λ b. insert_if b path (take n ls)) c.sets-limit-wanted.ensures
+      c.insert_if-count.ensures.front
+          ∙ ap (λ b. insert_if b path (take n ls)) c.sets_limit-wanted.ensures
           ∙ ap₂ (insert_if (is_leaf ss i && not (step ss i).closed)) (c.requires.sheet.each i inside) old
           ∙ sym (limits_step ss i inside),
-      c.insert-if-count.ensures.behind ∙ drop_further ls c.args.limits.now n c.insert-if-count.result c.insert-if-count.ensures.least c.loop-i.invariant.1,
-      omega (arith, c.insert-if-count.ensures.most, c.loop-i.invariant.2),
+      c.insert_if-count.ensures.behind ∙ drop_further ls c.args.limits.now n c.insert_if-count.result c.insert_if-count.ensures.least c.loop-i.invariant.1,
+      omega (arith, c.insert_if-count.ensures.most, c.loop-i.invariant.2),
     )
 
 pub returns : goal.returns

@@ -23,14 +23,14 @@ loop-k-preserved c =
     let ss = c.args.steps.now in
     let way = c.loop-k.way in
     let k = c.loop-k.k in
-    let on = c.comes-along.result in
+    let on = c.comes_along.result in
     let inside : k < length ss = c.loop-k-test.true in
     let above : 0 < k = omega arith in
     let here : k < length way = omega (arith, c.requires.room, length-set c.args.way.now 0 true) in
     let led = c.loop-k.invariant.0 (step ss k).target (c.requires.sheet.descending k above inside) in (
       below_more _ _
           (λ j h. let ne : j ≢ k = omega arith in get_or-set_other way k j on false ne ∙ c.loop-k.invariant.0 j h)
-          (get_or-set_same way k on false here ∙ taken_more c.args.limit ss c.requires.sheet.descending c.settle-all-table.result c.settle-all-table.ensures way k above inside led on c.comes-along.ensures),
+          (get_or-set_same way k on false here ∙ taken_more c.args.limit ss c.requires.sheet.descending c.settle_all-table.result c.settle_all-table.ensures way k above inside led on c.comes_along.ensures),
       drop-set-lt (length ss) way k on inside ∙ c.loop-k.invariant.1,
     )
 

@@ -12,14 +12,14 @@ loop-limit-preserved c =
     let ls = take c.limits-count.result c.limits-count.new.limits in
     let i = c.loop-limit.limit-index in
     let listed : ls ≡ limits ss = c.limits-count.ensures.front in
-    search_more c.args.benches ss (limits ss) c.loop-limit.best i (omega (arith, c.loop-limit-test.true, ap length listed)) (get_or ls i 0) (ap (λ xs. get_or xs i 0) listed) c.sums-at-sums.result c.sums-at-sums.ensures c.consider-best.result c.consider-best.ensures
+    search_more c.args.benches ss (limits ss) c.loop-limit.best i (omega (arith, c.loop-limit-test.true, ap length listed)) (get_or ls i 0) (ap (λ xs. get_or xs i 0) listed) c.sums_at-sums.result c.sums_at-sums.ensures c.consider-best.result c.consider-best.ensures
     ∙ c.loop-limit.invariant
 
 pub consider-best-requires : goal.consider-best-requires
 consider-best-requires c = record {
   some = c.requires.some;
   few = c.requires.few;
-  within = subst Within (sym c.sums-at-sums.ensures) (least_within _ c.args.steps.now c.requires.sheet.size.1 c.requires.sheet.timed 0 c.requires.sheet.size.0);
+  within = subst Within (sym c.sums_at-sums.ensures) (least_within _ c.args.steps.now c.requires.sheet.size.1 c.requires.sheet.timed 0 c.requires.sheet.size.0);
 }
 
 pub returns : goal.returns

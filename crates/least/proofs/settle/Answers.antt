@@ -6,8 +6,8 @@ use Rattle.least.specs.Progress.{SettledTable}
 use Rattle.least.proofs.Tables.{table_at_first, table_more}
 use Rattle.least.proofs.settle.Goals as goal
 
-pub offset-bounds-table-target-then-i-gt0 : goal.offset-bounds-table-target-then-i-gt0
-offset-bounds-table-target-then-i-gt0 g c =
+pub offset_bounds-table-target-then-i-gt0 : goal.offset_bounds-table-target-then-i-gt0
+offset_bounds-table-target-then-i-gt0 g c =
     let low : (step c.args.steps.now c.args.i).target < c.args.i = c.requires.descending c.args.i c.if-i-gt0.true c.requires.within in
     let l : (step c.args.steps.now c.args.i).target < length c.args.table.now = omega (arith, low, c.requires.room, c.requires.within) in
     search rules

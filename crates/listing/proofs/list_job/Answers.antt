@@ -16,20 +16,20 @@ use Rattle.listing.proofs.list_job.Goals as goal
 same_sheet : {ss ss' : List Step} {b b' : ℕ} → ss ≡ ss' → b ≡ b' → sheet_of ss b ≡ sheet_of ss' b'
 same_sheet e f = cc
 
-pub put-sheet-at-requires : goal.put-sheet-at-requires
-put-sheet-at-requires c =
+pub put_sheet-at-requires : goal.put_sheet-at-requires
+put_sheet-at-requires c =
     let s = sheet_of c.steps.result.now c.benches.result in
     let e : s ≡ issued_sheet c.read.new.self = same_sheet c.steps.ensures.value c.benches.ensures in
     let fits = listing_fits s (subst (WellFormed max_steps) (sym e) c.steps.ensures.sound) in
-    omega (arith, fits, length-append (sheet_lines s) (least_text (least_figures s.steps)), c.if-buffer-lt-LISTING-BYTES.false)
+    omega (arith, fits, length-append (sheet_lines s) (least_text (least_figures s.steps)), c.if-buffer-lt-LISTING_BYTES.false)
 
-pub put-least-requires : goal.put-least-requires
-put-least-requires c =
+pub put_least-requires : goal.put_least-requires
+put_least-requires c =
     let s = sheet_of c.steps.result.now c.benches.result in
     let e : s ≡ issued_sheet c.read.new.self = same_sheet c.steps.ensures.value c.benches.ensures in
     let fits = listing_fits s (subst (WellFormed max_steps) (sym e) c.steps.ensures.sound) in
-    let line = ap (λ f. length (least_text f)) (c.least-figures.ensures ∙ ap least_figures (sym c.steps.ensures.value)) in
-    omega (arith, fits, line, length-append (sheet_lines s) (least_text (least_figures s.steps)), c.put-sheet-at.ensures.end, c.put-sheet-at.auto.buffer, c.if-buffer-lt-LISTING-BYTES.false)
+    let line = ap (λ f. length (least_text f)) (c.least_figures.ensures ∙ ap least_figures (sym c.steps.ensures.value)) in
+    omega (arith, fits, line, length-append (sheet_lines s) (least_text (least_figures s.steps)), c.put_sheet-at.ensures.end, c.put_sheet-at.auto.buffer, c.if-buffer-lt-LISTING_BYTES.false)
 
 pub returns-in-Ok : goal.returns-in-Ok
 returns-in-Ok c =
@@ -38,11 +38,11 @@ returns-in-Ok c =
     let s = sheet_of c.steps.result.now c.benches.result in
     let e : s ≡ issued_sheet c.read.new.self = same_sheet c.steps.ensures.value c.benches.ensures in
     let fits = listing_fits s (subst (WellFormed max_steps) (sym e) c.steps.ensures.sound) in
-    let line = c.least-figures.ensures ∙ ap least_figures (sym c.steps.ensures.value) in
+    let line = c.least_figures.ensures ∙ ap least_figures (sym c.steps.ensures.value) in
     let text = ap text_of (accepted d _ (sym c.in-Ok.ensures.answer)) ∙ ap listing (sym c.in-Ok.ensures.after) ∙ ap listing (sym e) in
-    let t = shown c.args.file.now b (listing s) c.if-buffer-lt-LISTING-BYTES.false text in
-    let w₁ = written_first b 0 (sheet_lines s) _ _ c.put-sheet-at.ensures.text (omega (arith, c.put-sheet-at.ensures.end)) in
-    let w₂ = written_more b 0 (sheet_lines s) _ _ (least_text (least_figures s.steps)) _ _ w₁ (omega (arith, fits, length-append (sheet_lines s) (least_text (least_figures s.steps)), c.if-buffer-lt-LISTING-BYTES.false)) (c.put-least.ensures.text ∙ ap (λ f. put c.put-sheet-at.new.buffer c.put-sheet-at.result (least_text f)) line) (c.put-least.ensures.end ∙ ap (λ f. c.put-sheet-at.result + length (least_text f)) line) in
+    let t = shown c.args.file.now b (listing s) c.if-buffer-lt-LISTING_BYTES.false text in
+    let w₁ = written_first b 0 (sheet_lines s) _ _ c.put_sheet-at.ensures.text (omega (arith, c.put_sheet-at.ensures.end)) in
+    let w₂ = written_more b 0 (sheet_lines s) _ _ (least_text (least_figures s.steps)) _ _ w₁ (omega (arith, fits, length-append (sheet_lines s) (least_text (least_figures s.steps)), c.if-buffer-lt-LISTING_BYTES.false)) (c.put_least.ensures.text ∙ ap (λ f. put c.put_sheet-at.new.buffer c.put_sheet-at.result (least_text f)) line) (c.put_least.ensures.end ∙ ap (λ f. c.put_sheet-at.result + length (least_text f)) line) in
     record {
       answer = ap Ok (omega (arith, w₂.end)) ∙ t.0;
       after = w₂.text ∙ put_front b (listing s) ∙ t.1;
@@ -53,8 +53,8 @@ returns-in-Err c =
     let d = decode max_steps c.args.file.now in
     let e = turned_down (number c.in-Err.field-0.refusal, c.in-Err.field-0.place) in
     let text = ap text_of (refused d _ (sym c.in-Err.ensures.answer)) in
-    let t = shown c.args.file.now c.args.buffer.now e c.if-buffer-lt-LISTING-BYTES.false text in
+    let t = shown c.args.file.now c.args.buffer.now e c.if-buffer-lt-LISTING_BYTES.false text in
     record {
-      answer = ap Ok c.put-turned-down.ensures.end ∙ t.0;
-      after = c.put-turned-down.ensures.text ∙ put_front c.args.buffer.now e ∙ t.1;
+      answer = ap Ok c.put_turned_down.ensures.end ∙ t.0;
+      after = c.put_turned_down.ensures.text ∙ put_front c.args.buffer.now e ∙ t.1;
     }

@@ -7,6 +7,6 @@ pub returns-in-None : goal.returns-in-None
 returns-in-None c =
     let e = ap least_text c.in-None.is in
     record {
-      text = c.put-bytes.ensures.text ∙ ap (put c.args.buffer.now c.args.at) (sym e);
-      end = c.put-bytes.ensures.end ∙ ap (λ t. c.args.at + length t) (sym e);
+      text = c.put_bytes.ensures.text ∙ ap (put c.args.buffer.now c.args.at) (sym e);
+      end = c.put_bytes.ensures.end ∙ ap (λ t. c.args.at + length t) (sym e);
     }

@@ -6,26 +6,26 @@ use Rattle.listing.specs.Text.{newline, target_text, join_text, state_text}
 use Rattle.listing.proofs.Lines.{length_step_line}
 use Rattle.listing.proofs.put_step.Goals as goal
 
-pub put-field-at-requires : goal.put-field-at-requires
-put-field-at-requires c = omega (arith, length_step_line c.args.index c.args.step.now)
+pub put_field-at-requires : goal.put_field-at-requires
+put_field-at-requires c = omega (arith, length_step_line c.args.index c.args.step.now)
 
-pub put-target-at-requires : goal.put-target-at-requires
-put-target-at-requires c = omega (arith, length_step_line c.args.index c.args.step.now)
+pub put_target-at-requires : goal.put_target-at-requires
+put_target-at-requires c = omega (arith, length_step_line c.args.index c.args.step.now)
 
-pub put-bytes-at-requires : goal.put-bytes-at-requires
-put-bytes-at-requires c = omega (arith, length_step_line c.args.index c.args.step.now, ap length c.join-text.ensures)
+pub put_bytes-at-requires : goal.put_bytes-at-requires
+put_bytes-at-requires c = omega (arith, length_step_line c.args.index c.args.step.now, ap length c.join_text.ensures)
 
-pub put-field-at-requires-2 : goal.put-field-at-requires-2
-put-field-at-requires-2 c = omega (arith, length_step_line c.args.index c.args.step.now, ap length c.join-text.ensures)
+pub put_field-at-requires-2 : goal.put_field-at-requires-2
+put_field-at-requires-2 c = omega (arith, length_step_line c.args.index c.args.step.now, ap length c.join_text.ensures)
 
-pub put-field-at-requires-3 : goal.put-field-at-requires-3
-put-field-at-requires-3 c = omega (arith, length_step_line c.args.index c.args.step.now, ap length c.join-text.ensures)
+pub put_field-at-requires-3 : goal.put_field-at-requires-3
+put_field-at-requires-3 c = omega (arith, length_step_line c.args.index c.args.step.now, ap length c.join_text.ensures)
 
-pub put-bytes-at-requires-2 : goal.put-bytes-at-requires-2
-put-bytes-at-requires-2 c = omega (arith, length_step_line c.args.index c.args.step.now, ap length c.join-text.ensures, ap length c.state-text.ensures)
+pub put_bytes-at-requires-2 : goal.put_bytes-at-requires-2
+put_bytes-at-requires-2 c = omega (arith, length_step_line c.args.index c.args.step.now, ap length c.join_text.ensures, ap length c.state_text.ensures)
 
-pub put-bytes-requires : goal.put-bytes-requires
-put-bytes-requires c = omega (arith, length_step_line c.args.index c.args.step.now, ap length c.join-text.ensures, ap length c.state-text.ensures)
+pub put_bytes-requires : goal.put_bytes-requires
+put_bytes-requires c = omega (arith, length_step_line c.args.index c.args.step.now, ap length c.join_text.ensures, ap length c.state_text.ensures)
 
 pub returns : goal.returns
 returns c =
@@ -33,8 +33,8 @@ returns c =
     let s = c.args.step.now in
     let b = c.args.buffer.now in
     let at = c.args.at in
-    let j = c.join-text.ensures in
-    let k = c.state-text.ensures in
+    let j = c.join_text.ensures in
+    let k = c.state_text.ensures in
     let p₁ = codes "step " ++ decimal c.args.index in
     let p₂ = target_text s.target in
     let p₃ = join_text s.join in
@@ -46,11 +46,11 @@ returns c =
     let l₄ = length-append (p₁ ++ p₂ ++ p₃) p₄ in
     let l₅ = length-append (p₁ ++ p₂ ++ p₃ ++ p₄) p₅ in
     let l₆ = length-append (p₁ ++ p₂ ++ p₃ ++ p₄ ++ p₅) p₆ in
-    let w₁ = written_first b at p₁ _ _ c.put-field-at.ensures.text c.put-field-at.ensures.end in
-    let w₂ = written_more b at p₁ _ _ p₂ _ _ w₁ (omega (arith, l)) c.put-target-at.ensures.text c.put-target-at.ensures.end in
-    let w₃ = written_more b at (p₁ ++ p₂) _ _ p₃ _ _ w₂ (omega (arith, l, l₂)) (c.put-bytes-at.ensures.text ∙ ap (put c.put-target-at.new.buffer c.put-target-at.result) j) (c.put-bytes-at.ensures.end ∙ ap (λ x. c.put-target-at.result + length x) j) in
-    let w₄ = written_more b at (p₁ ++ p₂ ++ p₃) _ _ p₄ _ _ w₃ (omega (arith, l, l₂, l₃)) c.put-field-at-2.ensures.text c.put-field-at-2.ensures.end in
-    let w₅ = written_more b at (p₁ ++ p₂ ++ p₃ ++ p₄) _ _ p₅ _ _ w₄ (omega (arith, l, l₂, l₃, l₄)) c.put-field-at-3.ensures.text c.put-field-at-3.ensures.end in
-    let w₆ = written_more b at (p₁ ++ p₂ ++ p₃ ++ p₄ ++ p₅) _ _ p₆ _ _ w₅ (omega (arith, l, l₂, l₃, l₄, l₅)) (c.put-bytes-at-2.ensures.text ∙ ap (put c.put-field-at-3.new.buffer c.put-field-at-3.result) k) (c.put-bytes-at-2.ensures.end ∙ ap (λ x. c.put-field-at-3.result + length x) k) in
-    let w₇ = written_more b at (p₁ ++ p₂ ++ p₃ ++ p₄ ++ p₅ ++ p₆) _ _ newline _ _ w₆ (omega (arith, l, l₂, l₃, l₄, l₅, l₆)) c.put-bytes.ensures.text c.put-bytes.ensures.end in
+    let w₁ = written_first b at p₁ _ _ c.put_field-at.ensures.text c.put_field-at.ensures.end in
+    let w₂ = written_more b at p₁ _ _ p₂ _ _ w₁ (omega (arith, l)) c.put_target-at.ensures.text c.put_target-at.ensures.end in
+    let w₃ = written_more b at (p₁ ++ p₂) _ _ p₃ _ _ w₂ (omega (arith, l, l₂)) (c.put_bytes-at.ensures.text ∙ ap (put c.put_target-at.new.buffer c.put_target-at.result) j) (c.put_bytes-at.ensures.end ∙ ap (λ x. c.put_target-at.result + length x) j) in
+    let w₄ = written_more b at (p₁ ++ p₂ ++ p₃) _ _ p₄ _ _ w₃ (omega (arith, l, l₂, l₃)) c.put_field-at-2.ensures.text c.put_field-at-2.ensures.end in
+    let w₅ = written_more b at (p₁ ++ p₂ ++ p₃ ++ p₄) _ _ p₅ _ _ w₄ (omega (arith, l, l₂, l₃, l₄)) c.put_field-at-3.ensures.text c.put_field-at-3.ensures.end in
+    let w₆ = written_more b at (p₁ ++ p₂ ++ p₃ ++ p₄ ++ p₅) _ _ p₆ _ _ w₅ (omega (arith, l, l₂, l₃, l₄, l₅)) (c.put_bytes-at-2.ensures.text ∙ ap (put c.put_field-at-3.new.buffer c.put_field-at-3.result) k) (c.put_bytes-at-2.ensures.end ∙ ap (λ x. c.put_field-at-3.result + length x) k) in
+    let w₇ = written_more b at (p₁ ++ p₂ ++ p₃ ++ p₄ ++ p₅ ++ p₆) _ _ newline _ _ w₆ (omega (arith, l, l₂, l₃, l₄, l₅, l₆)) c.put_bytes.ensures.text c.put_bytes.ensures.end in
     record { text = w₇.text; end = w₇.end }

@@ -7,14 +7,14 @@ use Rattle.listing.specs.Text.{newline}
 use Rattle.listing.proofs.Lines.{length_turned_down, short_turned_down}
 use Rattle.listing.proofs.put_turned_down.Goals as goal
 
-pub put-field-at-requires : goal.put-field-at-requires
-put-field-at-requires c = let f = short_turned_down (number c.args.refusal) c.args.place (omega (arith, c.number.ensures, c.number.type-inv)) c.ranges.place.fits in omega (arith, f, length_turned_down (number c.args.refusal) c.args.place, ap (λ n. length (codes "turned down " ++ decimal n)) c.number.ensures)
+pub put_field-at-requires : goal.put_field-at-requires
+put_field-at-requires c = let f = short_turned_down (number c.args.refusal) c.args.place (omega (arith, c.number.ensures, c.number.type-inv)) c.ranges.place.fits in omega (arith, f, length_turned_down (number c.args.refusal) c.args.place, ap (λ n. length (codes "turned down " ++ decimal n)) c.number.ensures)
 
-pub put-field-at-requires-2 : goal.put-field-at-requires-2
-put-field-at-requires-2 c = let f = short_turned_down (number c.args.refusal) c.args.place (omega (arith, c.number.ensures, c.number.type-inv)) c.ranges.place.fits in omega (arith, f, length_turned_down (number c.args.refusal) c.args.place, ap (λ n. length (codes "turned down " ++ decimal n)) c.number.ensures)
+pub put_field-at-requires-2 : goal.put_field-at-requires-2
+put_field-at-requires-2 c = let f = short_turned_down (number c.args.refusal) c.args.place (omega (arith, c.number.ensures, c.number.type-inv)) c.ranges.place.fits in omega (arith, f, length_turned_down (number c.args.refusal) c.args.place, ap (λ n. length (codes "turned down " ++ decimal n)) c.number.ensures)
 
-pub put-bytes-requires : goal.put-bytes-requires
-put-bytes-requires c = let f = short_turned_down (number c.args.refusal) c.args.place (omega (arith, c.number.ensures, c.number.type-inv)) c.ranges.place.fits in omega (arith, f, length_turned_down (number c.args.refusal) c.args.place, ap (λ n. length (codes "turned down " ++ decimal n)) c.number.ensures)
+pub put_bytes-requires : goal.put_bytes-requires
+put_bytes-requires c = let f = short_turned_down (number c.args.refusal) c.args.place (omega (arith, c.number.ensures, c.number.type-inv)) c.ranges.place.fits in omega (arith, f, length_turned_down (number c.args.refusal) c.args.place, ap (λ n. length (codes "turned down " ++ decimal n)) c.number.ensures)
 
 pub returns : goal.returns
 returns c =
@@ -24,7 +24,7 @@ returns c =
     let b = c.args.buffer.now in
     let p₁ = codes "turned down " ++ decimal (number c.args.refusal) in
     let p₂ = codes " at " ++ decimal c.args.place in
-    let w₁ = written_first b 0 p₁ _ _ (c.put-field-at.ensures.text ∙ ap (λ n. put b 0 (codes "turned down " ++ decimal n)) e) (c.put-field-at.ensures.end ∙ ap (λ n. 0 + length (codes "turned down " ++ decimal n)) e) in
-    let w₂ = written_more b 0 p₁ _ _ p₂ _ _ w₁ (omega (arith, f, l)) c.put-field-at-2.ensures.text c.put-field-at-2.ensures.end in
-    let w₃ = written_more b 0 (p₁ ++ p₂) _ _ newline _ _ w₂ (omega (arith, f, l, length-append p₁ p₂)) c.put-bytes.ensures.text c.put-bytes.ensures.end in
+    let w₁ = written_first b 0 p₁ _ _ (c.put_field-at.ensures.text ∙ ap (λ n. put b 0 (codes "turned down " ++ decimal n)) e) (c.put_field-at.ensures.end ∙ ap (λ n. 0 + length (codes "turned down " ++ decimal n)) e) in
+    let w₂ = written_more b 0 p₁ _ _ p₂ _ _ w₁ (omega (arith, f, l)) c.put_field-at-2.ensures.text c.put_field-at-2.ensures.end in
+    let w₃ = written_more b 0 (p₁ ++ p₂) _ _ newline _ _ w₂ (omega (arith, f, l, length-append p₁ p₂)) c.put_bytes.ensures.text c.put_bytes.ensures.end in
     record { text = w₃.text; end = omega (arith, w₃.end) }

@@ -12,8 +12,8 @@ further t c =
     let split = (tails_right c.args.steps.now c.requires.descending).1 c.args.i (omega arith) c.requires.within in
     omega (arith, split, c.from-minutes.ensures, c.tail.ensures)
 
-pub overflow-add-result : goal.overflow-add-result
-overflow-add-result t c =
+pub overflow_add-result : goal.overflow_add-result
+overflow_add-result t c =
     let most = tail_most c.args.steps.now c.requires.descending max_minutes (λ i h. (c.requires.timed i h).1) c.args.i c.requires.within in
     omega (arith, further t c, most, c.requires.within, c.requires.few)
 

@@ -22,7 +22,7 @@ dispatch-made-requires g c =
     let marks = marks_way max_steps ss (planned_way ss best) c.members.new.way way c.members.ensures.members c.members.ensures.behind in
     record {
       inputs = record {
-        sheet = record { size = sheet.size; descending = sheet.descending; timed = sheet.timed; room = omega (arith, c.fill-tails.auto.tails, sheet.size.1); each = c.fill-tails.ensures.tails };
+        sheet = record { size = sheet.size; descending = sheet.descending; timed = sheet.timed; room = omega (arith, c.fill_tails.auto.tails, sheet.size.1); each = c.fill_tails.ensures.tails };
         marked = omega (arith, c.members.auto.way, sheet.size.1);
         way = subst (Way ss) (sym marks) way;
       };

@@ -23,8 +23,8 @@ returns c =
       | else-at-count-via-else-at-count w ↦ omega (arith, h, w.if-at-count.false)
     ] in
     record {
-      front = new x xs p n c.requires c.place-at.ensures.below c.place-at.ensures.within above c.copy-within.new.self c.copy-within.ensures.after;
-      behind = new_behind x xs p n c.requires c.place-at.ensures.below c.place-at.ensures.within c.copy-within.new.self c.copy-within.ensures.after;
+      front = new x xs p n c.requires c.place-at.ensures.below c.place-at.ensures.within above c.copy_within.new.self c.copy_within.ensures.after;
+      behind = new_behind x xs p n c.requires c.place-at.ensures.below c.place-at.ensures.within c.copy_within.new.self c.copy_within.ensures.after;
       least = omega arith;
       most = omega arith;
     }

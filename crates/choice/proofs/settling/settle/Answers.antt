@@ -8,7 +8,7 @@ use Rattle.choice.proofs.settling.settle.Goals as goal
 use Rattle.choice.proofs.settling.settle.Goals.{After-finish-sums}
 
 is_least : (c : After-finish-sums) → c.finish-sums.result ≡ least_of both (sheet_at c.args.limit c.args.steps.now) c.args.i
-is_least c = c.finish-sums.ensures ∙ settled_sums c.args.limit c.args.steps.now c.args.table.now c.args.i c.requires.within c.requires.settled c.closed-at-closed.result c.closed-at-closed.ensures
+is_least c = c.finish-sums.ensures ∙ settled_sums c.args.limit c.args.steps.now c.args.table.now c.args.i c.requires.within c.requires.settled c.closed_at-closed.result c.closed_at-closed.ensures
 
 pub finish-sums-requires : goal.finish-sums-requires
 finish-sums-requires c =
@@ -17,7 +17,7 @@ finish-sums-requires c =
     let i = c.args.i in
     let limit = c.args.limit in
     sums_within limit ss es i c.requires.within c.requires.settled c.requires.sheet.size.1 c.requires.sheet.timed _
-    (settled_sums limit ss es i c.requires.within c.requires.settled c.closed-at-closed.result c.closed-at-closed.ensures)
+    (settled_sums limit ss es i c.requires.within c.requires.settled c.closed_at-closed.result c.closed_at-closed.ensures)
 
 pub fold-requires : goal.fold-requires
 fold-requires c =

@@ -9,10 +9,10 @@ use Rattle.dispatch.specs.Members.{members}
 use Rattle.dispatch.specs.Tracking.{started_by, done_by}
 use Rattle.dispatch.proofs.Listing.{listed_more, listed_same, not_waiting}
 use Rattle.dispatch.proofs.looking.list_ready.Goals as goal
-use Rattle.dispatch.proofs.looking.list_ready.Goals.{then-may-begin, else-may-begin}
+use Rattle.dispatch.proofs.looking.list_ready.Goals.{then-may_begin, else-may_begin}
 
-pub mark-waiting-requires : goal.mark-waiting-requires
-mark-waiting-requires c =
+pub mark_waiting-requires : goal.mark_waiting-requires
+mark_waiting-requires c =
     record { ways = c.requires.ways; ended = c.requires.ended; room = c.requires.few; some = c.requires.some; descending = c.requires.descending; unmarked = λ i. repeated max_steps i false }
 
 pub loop-i-preserved : goal.loop-i-preserved
@@ -25,15 +25,15 @@ loop-i-preserved c =
     let tails : ℕ → ℕ = λ k. get_or c.args.tails.now k 0 in
     let i = c.loop-i.i in
     let here : i < length ss = c.loop-i-test.true in
-    let is : c.may-begin.result ≡ test i = c.may-begin.ensures ∙ not_waiting ss w started done i _ (c.mark-waiting.ensures i here) in
+    let is : c.may_begin.result ≡ test i = c.may_begin.ensures ∙ not_waiting ss w started done i _ (c.mark_waiting.ensures i here) in
     let low = c.loop-i.invariant.0 in
-    elim c.if-may-begin.branch [
-      | then-may-begin w ↦
+    elim c.if-may_begin.branch [
+      | then-may_begin w ↦
           simp (w.ready-is, w.count-is)
-          (omega arith, listed_more test tails ss i here c.loop-i.ready _ c.loop-i.count c.loop-i.invariant.1 (omega (arith, low, here, c.requires.room, c.loop-i.auto.ready)) (sym is ∙ w.if-may-begin.true))
-      | else-may-begin w ↦
+          (omega arith, listed_more test tails ss i here c.loop-i.ready _ c.loop-i.count c.loop-i.invariant.1 (omega (arith, low, here, c.requires.room, c.loop-i.auto.ready)) (sym is ∙ w.if-may_begin.true))
+      | else-may_begin w ↦
           simp (w.ready-is, w.count-is)
-          (omega arith, listed_same test tails ss i here c.loop-i.ready _ c.loop-i.count c.loop-i.invariant.1 (sym is ∙ w.if-may-begin.false))
+          (omega arith, listed_same test tails ss i here c.loop-i.ready _ c.loop-i.count c.loop-i.invariant.1 (sym is ∙ w.if-may_begin.false))
     ]
 
 pub returns : goal.returns

@@ -14,8 +14,8 @@ loop-k-init c =
     let done = done_by c.args.time c.args.ends.now in
     (c.requires.some, λ i h. c.requires.unmarked i ∙ sym (at_drop_all (λ us. not (fed (members c.args.way.now) done i (length ss) us)) ss (length ss) (omega arith)))
 
-pub loop-k-preserved-then-is-pending : goal.loop-k-preserved-then-is-pending
-loop-k-preserved-then-is-pending c =
+pub loop-k-preserved-then-is_pending : goal.loop-k-preserved-then-is_pending
+loop-k-preserved-then-is_pending c =
     let ss = c.args.steps.now in
     let w = members c.args.way.now in
     let done = done_by c.args.time c.args.ends.now in
@@ -24,7 +24,7 @@ loop-k-preserved-then-is-pending c =
     let above : c.loop-k.k ≡ suc k = omega arith in
     let low = c.requires.descending k (omega arith) here in (
       omega arith,
-      waits_more w done ss c.loop-k.waiting k here (sym c.if-is-pending.ensures) (omega (arith, low, here, c.requires.room, c.loop-k.auto.waiting))
+      waits_more w done ss c.loop-k.waiting k here (sym c.if-is_pending.ensures) (omega (arith, low, here, c.requires.room, c.loop-k.auto.waiting))
           (subst (λ j. (i : ℕ) → i < length ss → get_or c.loop-k.waiting i false ≡ not (fed w done i j (drop j ss))) above c.loop-k.invariant.1),
     )
 
@@ -36,7 +36,7 @@ loop-k-preserved c =
     let k = c.loop-k.k - 1 in
     let above : c.loop-k.k ≡ suc k = omega arith in (
       omega arith,
-      λ i h. c.loop-k.invariant.1 i h ∙ ap (λ j. not (fed w done i j (drop j ss))) above ∙ waits_same w done ss i k (omega arith) (sym c.if-is-pending.ensures),
+      λ i h. c.loop-k.invariant.1 i h ∙ ap (λ j. not (fed w done i j (drop j ss))) above ∙ waits_same w done ss i k (omega arith) (sym c.if-is_pending.ensures),
     )
 
 pub returns : goal.returns

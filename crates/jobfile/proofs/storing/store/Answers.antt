@@ -19,14 +19,14 @@ pub loop-step-preserved : goal.loop-step-preserved
 loop-step-preserved c =
     let i = c.loop-step.step-index in
     let inv = c.loop-step.invariant in
-    let piece = c.step-record.ensures in
+    let piece = c.step_record.ensures in
     let next = step_bytes (get_or c.args.steps.now i blank) in
-    let m = stored_more c.put-bytes-at.new.buffer c.args.steps.now i blank c.loop-step-test.true (omega (arith, c.loop-step.auto.buffer, c.if-buffer-steps.false, c.loop-step-test.true, c.put-bytes-at.auto.buffer)) in (
-      omega (arith, c.put-bytes-at-in-loop-step.ensures.end, ap length piece, inv.0),
-      c.put-bytes-at-in-loop-step.ensures.text
+    let m = stored_more c.put_bytes-at.new.buffer c.args.steps.now i blank c.loop-step-test.true (omega (arith, c.loop-step.auto.buffer, c.if-buffer-steps.false, c.loop-step-test.true, c.put_bytes-at.auto.buffer)) in (
+      omega (arith, c.put_bytes-at-in-loop-step.ensures.end, ap length piece, inv.0),
+      c.put_bytes-at-in-loop-step.ensures.text
           ∙ ap (put c.loop-step.buffer c.loop-step.at) piece
           ∙ ap (λ b. put b c.loop-step.at next) inv.1
-          ∙ ap (λ n. put (put c.put-bytes-at.new.buffer 6 (flat_map step_bytes (take i c.args.steps.now))) n next) inv.0
+          ∙ ap (λ n. put (put c.put_bytes-at.new.buffer 6 (flat_map step_bytes (take i c.args.steps.now))) n next) inv.0
           ∙ m,
     )
 
@@ -42,12 +42,12 @@ returns c =
     let l = length_encoded (sheet_of steps c.args.benches) in
     let t = long_enough (sheet_of steps c.args.benches) b (omega (arith, l, c.if-buffer-steps.false)) in
     record {
-      answer = ap Ok (omega (arith, c.put-bytes.ensures.end, inv.0, last, l)) ∙ sym t.0;
-      after = c.put-bytes.ensures.text
+      answer = ap Ok (omega (arith, c.put_bytes.ensures.end, inv.0, last, l)) ∙ sym t.0;
+      after = c.put_bytes.ensures.text
           ∙ ap (λ x. put x c.loop-step.at end_bytes) inv.1
-          ∙ ap (λ n. put (put c.put-bytes-at.new.buffer 6 (flat_map step_bytes (take i steps))) n end_bytes) (inv.0 ∙ ap (λ n. 6 + 14 * n) last)
-          ∙ ap (λ ss. put (put c.put-bytes-at.new.buffer 6 (flat_map step_bytes ss)) (6 + 14 * length steps) end_bytes) whole
-          ∙ ap (λ x. put (put x 6 (flat_map step_bytes steps)) (6 + 14 * length steps) end_bytes) c.put-bytes-at.ensures.text
+          ∙ ap (λ n. put (put c.put_bytes-at.new.buffer 6 (flat_map step_bytes (take i steps))) n end_bytes) (inv.0 ∙ ap (λ n. 6 + 14 * n) last)
+          ∙ ap (λ ss. put (put c.put_bytes-at.new.buffer 6 (flat_map step_bytes ss)) (6 + 14 * length steps) end_bytes) whole
+          ∙ ap (λ x. put (put x 6 (flat_map step_bytes steps)) (6 + 14 * length steps) end_bytes) c.put_bytes-at.ensures.text
           ∙ all
           ∙ sym t.1;
     }

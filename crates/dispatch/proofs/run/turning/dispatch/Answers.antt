@@ -4,13 +4,13 @@ use Rattle.dispatch.specs.Members.{members}
 use Rattle.dispatch.proofs.Promised.{tracks_none, promised}
 use Rattle.dispatch.proofs.run.turning.dispatch.Goals as goal
 
-pub make-turns-requires : goal.make-turns-requires
-make-turns-requires g c =
+pub make_turns-requires : goal.make_turns-requires
+make_turns-requires g c =
     record { inputs = c.requires.inputs; crewed = c.requires.crewed; room = c.requires.room; starts = refl; count = omega arith; tracked = tracks_none max_steps }
 
 pub returns : goal.returns
 returns g c =
     let given = c.requires.inputs in
-    let end = c.make-turns.ensures in
+    let end = c.make_turns.ensures in
     promised c.args.benches c.args.steps.now (members c.args.way.now) (g.P.Policy.placing c.args.policy.now) c.requires.crewed given.sheet.descending given.way
-    c.args.rows.now c.make-turns.new.rows c.make-turns.new.run.time c.make-turns.new.run.count c.make-turns.new.run.ends end.turned end.tracked end.count end.kept
+    c.args.rows.now c.make_turns.new.rows c.make_turns.new.run.time c.make_turns.new.run.count c.make_turns.new.run.ends end.turned end.tracked end.count end.kept

@@ -7,8 +7,8 @@ use Rattle.dispatch.specs.Members.{members}
 use Rattle.dispatch.proofs.Turned.{code_begins, code_fresh, code_waits, code_room, row_more, time_most}
 use Rattle.dispatch.proofs.run.turning.turn.Goals as goal
 
-pub next-row-requires : goal.next-row-requires
-next-row-requires g c =
+pub next_row-requires : goal.next_row-requires
+next_row-requires g c =
     let given = c.requires.inputs in
     record {
       inputs = given;
@@ -55,13 +55,13 @@ returns-in-Some g c =
       kept = ap (drop c.begin.new.run.count) after.rows ∙ drop-set-lt c.begin.new.run.count c.args.rows.now run.count row (omega (arith, after.count));
     }
 
-pub returns-in-Some-next-end : goal.returns-in-Some-next-end
-returns-in-Some-next-end g c =
+pub returns-in-Some-next_end : goal.returns-in-Some-next_end
+returns-in-Some-next_end g c =
     let run = c.args.run.now in
     let rows = take run.count c.args.rows.now in
     let waited = code_waits c.args.steps.now c.args.tails.now c.args.way.now run.time rows run.ends c.requires.inputs.sheet.each c.requires.tracked c.args.benches (g.P.Policy.placing c.args.policy.now) (sym c.in-None.ensures) in
     record {
-      turned = sym (waited ∙ ap (wait (moment run.time (reverse rows))) (sym c.in-Some-next-end.ensures));
+      turned = sym (waited ∙ ap (wait (moment run.time (reverse rows))) (sym c.in-Some-next_end.ensures));
       tracked = c.requires.tracked;
       count = c.requires.count;
       more = omega arith;

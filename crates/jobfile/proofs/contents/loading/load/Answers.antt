@@ -27,8 +27,8 @@ record_told o p x e h = sym h ∙ ap (λ a. told_next (Ok a)) e
 standing_past : (o : Option Placed) (p : Placed) (s s' : Standing) → o ≡ Some p → s' ≡ standing_after (told_next (Ok o)) s → s' ≡ passed s (bytes_of p.record)
 standing_past o p s s' e h = h ∙ ap (λ a. standing_after (told_next (Ok a)) s) e
 
-pub take-in-requires : goal.take-in-requires
-take-in-requires c =
+pub take_in-requires : goal.take_in-requires
+take_in-requires c =
     let inv = c.loop-placed.invariant in
     let a = record_told _ _ _ c.in-Some.is c.in-ok-placed.ensures.answer in
     let l = length-take-le c.loop-placed.contents.count c.loop-placed.contents.steps (omega (arith, c.loop-placed.contents.size, c.loop-placed.contents.counted)) in
@@ -40,7 +40,7 @@ loop-placed-smaller c =
     let inv = c.loop-placed.invariant in
     let a = record_told _ _ _ c.in-Some.is c.in-ok-placed.ensures.answer in
     let m = standing_past _ _ _ _ c.in-Some.is c.in-ok-placed.ensures.after in
-    let t = turn max_steps _ (standing c.loop-placed.reader) _ (sheet_in c.loop-placed.contents).steps _ inv.1 inv.2 _ a _ _ _ m c.take-in.ensures.benches c.take-in.ensures.steps in
+    let t = turn max_steps _ (standing c.loop-placed.reader) _ (sheet_in c.loop-placed.contents).steps _ inv.1 inv.2 _ a _ _ _ m c.take_in.ensures.benches c.take_in.ensures.steps in
     subst (λ f. length f - c.next.new.self.place < length c.loop-placed.reader.file.now - c.loop-placed.reader.place) (sym c.in-ok-placed.ensures.file) t.2
 
 pub loop-placed-preserved : goal.loop-placed-preserved
@@ -48,11 +48,11 @@ loop-placed-preserved c =
     let inv = c.loop-placed.invariant in
     let a = record_told _ _ _ c.in-Some.is c.in-ok-placed.ensures.answer in
     let m = standing_past _ _ _ _ c.in-Some.is c.in-ok-placed.ensures.after in
-    let t = turn max_steps _ (standing c.loop-placed.reader) _ (sheet_in c.loop-placed.contents).steps _ inv.1 inv.2 _ a _ _ _ m c.take-in.ensures.benches c.take-in.ensures.steps in
+    let t = turn max_steps _ (standing c.loop-placed.reader) _ (sheet_in c.loop-placed.contents).steps _ inv.1 inv.2 _ a _ _ _ m c.take_in.ensures.benches c.take_in.ensures.steps in
     let same = c.in-ok-placed.ensures.file in (
       same ∙ inv.0,
       t.0,
-      subst (λ f. decode_from max_steps c.next.new.self.stage c.take-in.new.self.benches (sheet_in c.take-in.new.self).steps c.next.new.self.place (records (drop c.next.new.self.place f)) ≡ decode_from max_steps Start 0 [] 0 (records f)) (sym same) t.1,
+      subst (λ f. decode_from max_steps c.next.new.self.stage c.take_in.new.self.benches (sheet_in c.take_in.new.self).steps c.next.new.self.place (records (drop c.next.new.self.place f)) ≡ decode_from max_steps Start 0 [] 0 (records f)) (sym same) t.1,
     )
 
 pub returns : goal.returns

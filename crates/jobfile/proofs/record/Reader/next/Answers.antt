@@ -16,20 +16,20 @@ returns-in-Some c =
     let found = ap (λ b. fault max_steps s.stage s.steps b) (sym bytes) ∙ sym c.judge.ensures ∙ c.in-Some.is in
     record {
       file = refl;
-      answer = sym (next_judged max_steps file s c.if-file-gt-MAX-FILE.false c.if-place-file.false _ found);
+      answer = sym (next_judged max_steps file s c.if-file-gt-MAX_FILE.false c.if-place-file.false _ found);
       fields = tt;
       after = refl;
     }
 
-pub steps-after-self-requires : goal.steps-after-self-requires
-steps-after-self-requires c e =
+pub steps_after-self-requires : goal.steps_after-self-requires
+steps_after-self-requires c e =
     let s = standing c.args.self.now in
     let bytes = c.first-bytes.result.now in
     let p = passes max_steps s.stage s.steps bytes (sym c.judge.ensures ∙ c.in-default-judge.is) in
     room_left max_steps s.stage s.steps bytes p (sym c.word-kind.ensures ∙ e)
 
-pub invariant-of-self : goal.invariant-of-self
-invariant-of-self c =
+pub invariant_of-self : goal.invariant_of-self
+invariant_of-self c =
     let bytes = c.first-bytes.ensures ∙ part c.args.self.now.file.now c.args.self.now.place in
     let fits = record_fits c.args.self.now.file.now c.args.self.now.place c.args.self.now.within in
     (omega (arith, ap length bytes, fits), tt)
@@ -38,20 +38,20 @@ pub returns : goal.returns
 returns c =
     let file = c.args.self.now.file.now in
     let s = standing c.args.self.now in
-    let r = c.record-of-record.result in
+    let r = c.record_of-record.result in
     let none = sym c.judge.ensures ∙ c.in-default-judge.is in
     let here = c.first-bytes.ensures ∙ part file s.place in
     let found = ap (λ b. fault max_steps s.stage s.steps b) (sym here) ∙ none in
     let bytes = c.first-bytes.result.now in
     let ok = passes max_steps s.stage s.steps bytes none in
-    let size = ap length c.record-of-record.ensures.bytes in
+    let size = ap length c.record_of-record.ensures.bytes in
     let known = known_kind (kind bytes) ok.known in
     let k = c.word-kind.ensures in
-    let kinds = c.record-of-record.ensures.kind (omega (arith, k, known.0)) (omega (arith, k, known.1)) ∙ k in
-    let answered = next_judged max_steps file s c.if-file-gt-MAX-FILE.false c.if-place-file.false None found in
+    let kinds = c.record_of-record.ensures.kind (omega (arith, k, known.0)) (omega (arith, k, known.1)) ∙ k in
+    let answered = next_judged max_steps file s c.if-file-gt-MAX_FILE.false c.if-place-file.false None found in
     record {
       file = refl;
-      answer = handed_same _ _ _ _ _ (kinds ∙ ap kind here) (c.record-of-record.ensures.bytes ∙ here) ∙ sym answered;
+      answer = handed_same _ _ _ _ _ (kinds ∙ ap kind here) (c.record_of-record.ensures.bytes ∙ here) ∙ sym answered;
       fields = fielded r (λ e. omega (arith, size, ok.whole, head_length max_steps s.stage s.steps bytes ok (sym kinds ∙ e))) (λ e. omega (arith, size, ok.whole, step_length max_steps s.stage s.steps bytes ok (sym kinds ∙ e))) (omega (arith, size, ok.header));
-      after = standing_behind _ _ _ _ _ _ c.record-of-record.ensures.bytes k c.stage-after-self.ensures c.steps-after-self.ensures;
+      after = standing_behind _ _ _ _ _ _ c.record_of-record.ensures.bytes k c.stage_after-self.ensures c.steps_after-self.ensures;
     }

@@ -6,12 +6,12 @@ use Rattle.policies.specs.Rules.{entry}
 use Rattle.policies.proofs.Firsts.{any_at, any_none, first_is}
 use Rattle.policies.proofs.rush_layer.RushLayerPolicy.pick.Goals as goal
 
-pub returns-then-is-marked : goal.returns-then-is-marked
-returns-then-is-marked g c =
+pub returns-then-is_marked : goal.returns-then-is_marked
+returns-then-is_marked g c =
     let rs = c.args.ready.now in
     let i = c.loop-i.i in
     let marks = marked c.args.self.now.marks.values in
-    let here = sym c.is-marked.ensures ∙ c.if-is-marked.true in
+    let here = sym c.is_marked.ensures ∙ c.if-is_marked.true in
     record {
       place = sym (cond-true _ _ _ (sym c.if-not-rises.ensures) ∙ cond-true _ _ _ (any_at marks rs i c.loop-i-test.true here) ∙ first_is marks rs i c.loop-i-test.true here c.loop-i.invariant);
       rule = λ up some. record { some = λ k h e. (here, c.loop-i.invariant); none = λ f. absurd (both_ways _ (f i c.loop-i-test.true) here) };

@@ -6,8 +6,8 @@ use Rattle.sheet.specs.Model.{draft_sheet}
 use Rattle.sheet.proofs.Growing.{accepted, rooted_more, descending_more, timed_more, priced_more}
 use Rattle.sheet.proofs.types.Draft.add.Goals as goal
 
-pub invariant-of-self : goal.invariant-of-self
-invariant-of-self c =
+pub invariant_of-self : goal.invariant_of-self
+invariant_of-self c =
     let d = c.args.self.now in
     let room : d.count < length d.steps = omega arith in (
       search (rules, length-set),
@@ -30,7 +30,7 @@ pub returns : goal.returns
 returns c =
     let d = c.args.self.now in
     let few = length-take-le d.count d.steps (omega arith) in
-    let a = accepted (draft_sheet d) c.args.target c.args.join c.args.minutes c.args.fee c.in-Some.join (omega (arith, few)) (omega (arith, few, c.if-target-number.false)) (sym c.from-number.ensures ∙ c.in-Some.is) c.if-minutes-lt1.false c.if-minutes-gt-MAX-MINUTES.false c.if-fee-gt-MAX-FEE.false in
+    let a = accepted (draft_sheet d) c.args.target c.args.join c.args.minutes c.args.fee c.in-Some.join (omega (arith, few)) (omega (arith, few, c.if-target-number.false)) (sym c.from_number.ensures ∙ c.in-Some.is) c.if-minutes-lt1.false c.if-minutes-gt-MAX_MINUTES.false c.if-fee-gt-MAX_FEE.false in
     record {
       answer = ap Ok (sym few) ∙ sym a.0;
       after = ap (λ ss. sheet_of ss d.benches) (take_more_set d.steps d.count _ (omega arith)) ∙ sym a.1;

@@ -26,7 +26,7 @@ returns-in-Some g c =
     let all = length-take-le d.count d.steps (omega (arith, d.table, d.counted)) in
     let room = le-ltb (length before) (length ss) (omega (arith, all, c.if-rows-self.false)) in
     let made = c.in-Some.ensures in
-    promised p (issued_sheet d) d.descending (omega (arith, d.crewed.0)) before c.make-plan.new.rows _
+    promised p (issued_sheet d) d.descending (omega (arith, d.crewed.0)) before c.make_plan.new.rows _
     (ap plan_or_none (made.answer ∙ ap (plan_of p d.benches) c.steps.ensures.value) ∙ sym (cond-false _ _ _ room))
     (made.rows ∙ ap (λ us. written (rows_of p d.benches us) before) c.steps.ensures.value ∙ sym (cond-false _ _ _ room))
 
@@ -39,6 +39,6 @@ returns-in-None g c =
     let all = length-take-le d.count d.steps (omega (arith, d.table, d.counted)) in
     let room = le-ltb (length before) (length ss) (omega (arith, all, c.if-rows-self.false)) in
     let made = c.in-None.ensures in
-    promised p (issued_sheet d) d.descending (omega (arith, d.crewed.0)) before c.make-plan.new.rows _
+    promised p (issued_sheet d) d.descending (omega (arith, d.crewed.0)) before c.make_plan.new.rows _
     (ap plan_or_none (made.answer ∙ ap (plan_of p d.benches) c.steps.ensures.value) ∙ sym (cond-false _ _ _ room))
     (made.rows ∙ ap (λ us. written (rows_of p d.benches us) before) c.steps.ensures.value ∙ sym (cond-false _ _ _ room))

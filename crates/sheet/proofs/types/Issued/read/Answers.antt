@@ -8,8 +8,8 @@ use Rattle.sheet.specs.Calls.{read_answer, read_after}
 use Rattle.sheet.specs.Model.{issued_sheet}
 use Rattle.sheet.proofs.types.Issued.read.Goals as goal
 
-pub invariant-of-self : goal.invariant-of-self
-invariant-of-self c =
+pub invariant_of-self : goal.invariant_of-self
+invariant_of-self c =
     let x = c.in-ok-benches.field-0 in
     let w = decoded_well_formed max_steps c.args.file.now (sheet_in x) (λ i. (c.type-inv.file i).fits) (sym c.in-ok-benches.ensures) in
     let few = length-take-le x.count x.steps (omega (arith, x.size, x.counted)) in
