@@ -8,19 +8,19 @@ use Rattle.listing.proofs.Lines.{length_turned_down, short_turned_down}
 use Rattle.listing.proofs.put_turned_down.Goals as goal
 
 pub put_field-at-requires : goal.put_field-at-requires
-put_field-at-requires c = let f = short_turned_down (number c.args.refusal) c.args.place (omega (arith, c.number.ensures, c.number.type-inv)) c.ranges.place.fits in omega (arith, f, length_turned_down (number c.args.refusal) c.args.place, ap (λ n. length (codes "turned down " ++ decimal n)) c.number.ensures)
+put_field-at-requires c = let f = short_turned_down (number c.args.refusal) c.args.place (omega (arith, c.number.ensures, c.number.type_inv)) c.ranges.place.fits in omega (arith, f, length_turned_down (number c.args.refusal) c.args.place, ap (λ n. length (codes "turned down " ++ decimal n)) c.number.ensures)
 
 pub put_field-at-requires-2 : goal.put_field-at-requires-2
-put_field-at-requires-2 c = let f = short_turned_down (number c.args.refusal) c.args.place (omega (arith, c.number.ensures, c.number.type-inv)) c.ranges.place.fits in omega (arith, f, length_turned_down (number c.args.refusal) c.args.place, ap (λ n. length (codes "turned down " ++ decimal n)) c.number.ensures)
+put_field-at-requires-2 c = let f = short_turned_down (number c.args.refusal) c.args.place (omega (arith, c.number.ensures, c.number.type_inv)) c.ranges.place.fits in omega (arith, f, length_turned_down (number c.args.refusal) c.args.place, ap (λ n. length (codes "turned down " ++ decimal n)) c.number.ensures)
 
 pub put_bytes-requires : goal.put_bytes-requires
-put_bytes-requires c = let f = short_turned_down (number c.args.refusal) c.args.place (omega (arith, c.number.ensures, c.number.type-inv)) c.ranges.place.fits in omega (arith, f, length_turned_down (number c.args.refusal) c.args.place, ap (λ n. length (codes "turned down " ++ decimal n)) c.number.ensures)
+put_bytes-requires c = let f = short_turned_down (number c.args.refusal) c.args.place (omega (arith, c.number.ensures, c.number.type_inv)) c.ranges.place.fits in omega (arith, f, length_turned_down (number c.args.refusal) c.args.place, ap (λ n. length (codes "turned down " ++ decimal n)) c.number.ensures)
 
 pub returns : goal.returns
 returns c =
     let l = length_turned_down (number c.args.refusal) c.args.place in
     let e = c.number.ensures in
-    let f = short_turned_down (number c.args.refusal) c.args.place (omega (arith, e, c.number.type-inv)) c.ranges.place.fits in
+    let f = short_turned_down (number c.args.refusal) c.args.place (omega (arith, e, c.number.type_inv)) c.ranges.place.fits in
     let b = c.args.buffer.now in
     let p₁ = codes "turned down " ++ decimal (number c.args.refusal) in
     let p₂ = codes " at " ++ decimal c.args.place in

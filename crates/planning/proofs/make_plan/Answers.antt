@@ -16,9 +16,9 @@ use Rattle.planning.proofs.make_plan.Goals as goal
 pub dispatch-made-requires : goal.dispatch-made-requires
 dispatch-made-requires g c =
     let ss = c.args.steps.now in
-    let best = c.in-ok-best.best in
+    let best = c.in_ok-best.best in
     let sheet = c.requires.sheet in
-    let way = planned_is_way c.args.benches ss sheet.descending best (sym c.in-ok-best.ensures) in
+    let way = planned_is_way c.args.benches ss sheet.descending best (sym c.in_ok-best.ensures) in
     let marks = marks_way max_steps ss (planned_way ss best) c.members.new.way way c.members.ensures.members c.members.ensures.behind in
     record {
       inputs = record {
@@ -35,8 +35,8 @@ returns g c =
     let ss = c.args.steps.now in
     let benches = c.args.benches in
     let p = g.P.Policy.placing c.args.policy.now in
-    let best = c.in-ok-best.best in
-    let is : planned benches ss ≡ Some best = sym c.in-ok-best.ensures in
+    let best = c.in_ok-best.best in
+    let is : planned benches ss ≡ Some best = sym c.in_ok-best.ensures in
     let way = planned_is_way benches ss c.requires.sheet.descending best is in
     let marks = marks_way max_steps ss (planned_way ss best) c.members.new.way way c.members.ensures.members c.members.ensures.behind in
     let made = c.dispatch-made.ensures in

@@ -17,7 +17,7 @@ turn-requires g c =
       crewed = c.requires.crewed;
       room = omega (arith, c.requires.room, c.loop-turns.auto.rows);
       count = c.loop-turns.invariant.2;
-      greedy = subst (Greedy c.args.benches c.args.steps.now w) (sym c.loop-turns.invariant.0) (turns_greedy c.args.benches c.args.steps.now w p c.loop-turns.-turns empty_state starts);
+      greedy = subst (Greedy c.args.benches c.args.steps.now w) (sym c.loop-turns.invariant.0) (turns_greedy c.args.benches c.args.steps.now w p c.loop-turns._turns empty_state starts);
       tracked = c.loop-turns.invariant.1;
     }
 
@@ -26,7 +26,7 @@ loop-turns-preserved g c =
     let f = turn c.args.benches c.args.steps.now (g.P.Policy.placing c.args.policy.now) (members c.args.way.now) in
     let old = c.loop-turns.invariant in
     let new = c.turn.ensures in (
-      new.turned ∙ ap f old.0 ∙ sym (turns_add c.loop-turns.-turns 1 f empty_state),
+      new.turned ∙ ap f old.0 ∙ sym (turns_add c.loop-turns._turns 1 f empty_state),
       new.tracked,
       new.count,
       new.kept ∙ drop_further c.loop-turns.run.count c.turn.new.run.count c.loop-turns.rows c.args.rows.now new.more old.3,

@@ -7,7 +7,7 @@ use Rattle.dispatch.proofs.run.turning.make_turns.Given as goal
 
 abbrev pub invariant-loop-turns : goal.invariant-loop-turns
 invariant-loop-turns g l =
-    (state l.run l.rows ≡ turns l.-turns (turn l.benches l.steps (g.P.Policy.placing l.policy) (members l.way)) empty_state)
+    (state l.run l.rows ≡ turns l._turns (turn l.benches l.steps (g.P.Policy.placing l.policy) (members l.way)) empty_state)
     × Tracked l.run l.rows
     × (l.run.count ≤ length l.rows)
     × (drop l.run.count l.rows ≡ drop l.run.count l.initial.rows)

@@ -68,13 +68,13 @@ returns-in-Some-next_end g c =
       kept = refl;
     }
 
-pub returns-in-default : goal.returns-in-default
-returns-in-default g c =
+pub returns-in_default : goal.returns-in_default
+returns-in_default g c =
     let run = c.args.run.now in
     let rows = take run.count c.args.rows.now in
     let waited = code_waits c.args.steps.now c.args.tails.now c.args.way.now run.time rows run.ends c.requires.inputs.sheet.each c.requires.tracked c.args.benches (g.P.Policy.placing c.args.policy.now) (sym c.in-None.ensures) in
     record {
-      turned = sym (waited ∙ ap (wait (moment run.time (reverse rows))) (sym c.in-default.ensures));
+      turned = sym (waited ∙ ap (wait (moment run.time (reverse rows))) (sym c.in_default.ensures));
       tracked = c.requires.tracked;
       count = c.requires.count;
       more = omega arith;

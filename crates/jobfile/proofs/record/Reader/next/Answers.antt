@@ -25,21 +25,21 @@ pub steps_after-self-requires : goal.steps_after-self-requires
 steps_after-self-requires c e =
     let s = standing c.args.self.now in
     let bytes = c.first-bytes.result.now in
-    let p = passes max_steps s.stage s.steps bytes (sym c.judge.ensures ∙ c.in-default-judge.is) in
+    let p = passes max_steps s.stage s.steps bytes (sym c.judge.ensures ∙ c.in_default-judge.is) in
     room_left max_steps s.stage s.steps bytes p (sym c.word-kind.ensures ∙ e)
 
 pub invariant_of-self : goal.invariant_of-self
 invariant_of-self c =
     let bytes = c.first-bytes.ensures ∙ part c.args.self.now.file.now c.args.self.now.place in
     let fits = record_fits c.args.self.now.file.now c.args.self.now.place c.args.self.now.within in
-    (omega (arith, ap length bytes, fits), tt)
+    record { within = omega (arith, ap length bytes, fits) }
 
 pub returns : goal.returns
 returns c =
     let file = c.args.self.now.file.now in
     let s = standing c.args.self.now in
     let r = c.record_of-record.result in
-    let none = sym c.judge.ensures ∙ c.in-default-judge.is in
+    let none = sym c.judge.ensures ∙ c.in_default-judge.is in
     let here = c.first-bytes.ensures ∙ part file s.place in
     let found = ap (λ b. fault max_steps s.stage s.steps b) (sym here) ∙ none in
     let bytes = c.first-bytes.result.now in

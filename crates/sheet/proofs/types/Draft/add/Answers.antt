@@ -9,22 +9,16 @@ use Rattle.sheet.proofs.types.Draft.add.Goals as goal
 pub invariant_of-self : goal.invariant_of-self
 invariant_of-self c =
     let d = c.args.self.now in
-    let room : d.count < length d.steps = omega arith in (
-      search (rules, length-set),
-      (
-        (omega arith, omega arith),
-        (
-          rooted_more _ _ _ room (omega (arith, d.counted)) d.rooted,
-          (
-            descending_more _ _ _ room c.if-target-number.false d.descending,
-            (
-              timed_more _ _ _ room (search rules) d.timed,
-              (priced_more _ _ _ room (search rules) d.priced, (d.crewed, tt)),
-            ),
-          ),
-        ),
-      ),
-    )
+    let room : d.count < length d.steps = omega arith in
+    record {
+      table = search (rules, length-set);
+      counted = (omega arith, omega arith);
+      rooted = rooted_more _ _ _ room (omega (arith, d.counted)) d.rooted;
+      descending = descending_more _ _ _ room c.if-target-number.false d.descending;
+      timed = timed_more _ _ _ room (search rules) d.timed;
+      priced = priced_more _ _ _ room (search rules) d.priced;
+      crewed = d.crewed;
+    }
 
 pub returns : goal.returns
 returns c =

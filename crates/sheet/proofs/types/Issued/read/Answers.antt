@@ -10,17 +10,25 @@ use Rattle.sheet.proofs.types.Issued.read.Goals as goal
 
 pub invariant_of-self : goal.invariant_of-self
 invariant_of-self c =
-    let x = c.in-ok-benches.field-0 in
-    let w = decoded_well_formed max_steps c.args.file.now (sheet_in x) (λ i. (c.type-inv.file i).fits) (sym c.in-ok-benches.ensures) in
+    let x = c.in_ok-benches.field-0 in
+    let w = decoded_well_formed max_steps c.args.file.now (sheet_in x) (λ i. (c.type_inv.file i).fits) (sym c.in_ok-benches.ensures) in
     let few = length-take-le x.count x.steps (omega (arith, x.size, x.counted)) in
-    (x.size, ((omega (arith, few, w.size.0), x.counted), (w.rooted, (w.descending, (w.timed, (w.priced, (w.crewed, tt)))))))
+    record {
+      table = x.size;
+      counted = (omega (arith, few, w.size.0), x.counted);
+      rooted = w.rooted;
+      descending = w.descending;
+      timed = w.timed;
+      priced = w.priced;
+      crewed = w.crewed;
+    }
 
 pub returns : goal.returns
 returns c =
-    let x = c.in-ok-benches.field-0 in
-    let e = c.in-ok-benches.ensures in
+    let x = c.in_ok-benches.field-0 in
+    let e = c.in_ok-benches.ensures in
     record {
       answer = ap read_answer e;
       after = ap (λ r. read_after r (issued_sheet c.args.self.now)) e;
-      faithful = decoded_back max_steps c.args.file.now (sheet_in x) (λ i. (c.type-inv.file i).fits) (sym e);
+      faithful = decoded_back max_steps c.args.file.now (sheet_in x) (λ i. (c.type_inv.file i).fits) (sym e);
     }
