@@ -1,5 +1,5 @@
 -- The loops that list what is ready, look for a free bench, and look for the next end.
-use Rattle.std.proofs.Common.{◌≡◌, ℕ, suc, ◌+◌, ◌-◌, ◌<◌, ◌≤◌, Bool, true, false, not, ◌&&◌, ◌||◌, ltb, List, [], ◌∷◌, ◌++◌, length, get_or, take, drop, set, Some, None, Option, sym, refl, ap, ◌∙◌, append_assoc, add-one, arith}
+use Rattle.std.proofs.Common.{◌≡◌, ℕ, suc, ◌+◌, ◌-◌, ◌<◌, Bool, true, false, not, ◌&&◌, ◌||◌, ltb, List, [], ◌∷◌, ◌++◌, length, take, drop, set, Some, sym, ap, ◌∙◌, append_assoc, add-one, arith}
 use mathlib.Core.Bool.{not-not}
 use Rattle.std.proofs.lemmas.List.{at_drop_more, take_more_set}
 use Rattle.std.proofs.lemmas.Bool.{or_left}

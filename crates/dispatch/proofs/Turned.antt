@@ -15,7 +15,7 @@ use Rattle.ways.specs.Paths.{tail}
 use Rattle.ways.specs.Ways.{Set, Way}
 use Rattle.ways.proofs.Added.{all_added, way_sum_most}
 use Rattle.ways.proofs.Suffixes.{uncons}
-use Rattle.schedules.specs.Dispatch.{State, moment, begun, ended, over, ready, ready_among, free, keep, entry, readies, ready_list, named, next_end, wait, begin_or_wait, turn, new_row}
+use Rattle.schedules.specs.Dispatch.{State, moment, begun, ready, ready_among, free, keep, entry, readies, ready_list, named, next_end, wait, begin_or_wait, turn}
 use Rattle.schedules.specs.Greedy.{Greedy}
 use Rattle.schedules.proofs.Limits.{now_most}
 use Rattle.schedules.proofs.Moments.{reverse_alike, ready_list_same, free_same, next_end_back}

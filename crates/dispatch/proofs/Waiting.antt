@@ -1,7 +1,7 @@
 -- The pass that marks the steps which wait for a feeder, from the highest step down.
-use Rattle.std.proofs.Common.{◌≡◌, ℕ, zero, suc, ◌+◌, ◌<◌, ◌≤◌, Bool, true, false, not, ◌&&◌, ◌||◌, eqb, List, ◌∷◌, length, get_or, drop, set, sym, refl, ap, ◌∙◌, ap₂, ⊎_elim, arith, drop-cons}
+use Rattle.std.proofs.Common.{◌≡◌, ℕ, zero, suc, ◌+◌, ◌<◌, Bool, true, false, not, ◌&&◌, ◌||◌, eqb, List, length, get_or, drop, set, sym, refl, ap, ◌∙◌, ⊎_elim, arith, drop-cons}
 use Rattle.std.proofs.lemmas.List.{get_or-set_same, get_or-set_other}
-use Rattle.std.proofs.lemmas.Bool.{eq-eqb, ne_eqb, cases_eq, and_parts}
+use Rattle.std.proofs.lemmas.Bool.{eq-eqb, ne_eqb, cases_eq}
 use Rattle.steps.proofs.Clashes.{clash}
 use Rattle.steps.specs.declared.step.Step.{Step}
 use Rattle.steps.specs.Sheet.{step, blank, Descending}

@@ -1,5 +1,5 @@
 -- What a run stands for, and what it does next.
-use Rattle.std.specs.Prelude.{◌≡◌, ℕ, ◌+◌, List, [], ◌∷◌, reverse, length, take, Some, None, Option, slice_index_or}
+use Rattle.std.specs.Prelude.{ℕ, ◌+◌, List, [], ◌∷◌, reverse, take, Some, None, Option, slice_index_or}
 use Rattle.steps.specs.declared.ready.Ready.{Ready}
 use Rattle.steps.specs.declared.row.Row.{Row}
 use Rattle.steps.specs.Placing.{Placing, no_ready}

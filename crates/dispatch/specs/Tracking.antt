@@ -1,10 +1,10 @@
 -- The ends of the steps that have begun, kept by step: 0 for a step that has not.
-use Rattle.std.specs.Prelude.{◌≡◌, ℕ, Bool, ◌&&◌, List, reverse, nat_le, nat_lt, slice_index}
+use Rattle.std.specs.Prelude.{◌≡◌, ℕ, Bool, ◌&&◌, List, nat_le, nat_lt, slice_index}
 use Rattle.steps.specs.declared.ready.Ready.{Ready}
 use Rattle.steps.specs.declared.row.Row.{Row}
 use Rattle.steps.specs.declared.step.Step.{Step}
 use Rattle.ways.specs.Ways.{Set}
-use Rattle.schedules.specs.Dispatch.{State, moment, begun, ended, ready_among, readies}
+use Rattle.schedules.specs.Dispatch.{begun, ended, ready_among, readies}
 use Rattle.schedules.specs.Timetables.{end_of}
 use Rattle.dispatch.specs.Members.{members}
 

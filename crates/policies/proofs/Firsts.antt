@@ -1,6 +1,6 @@
 -- The loop that looks for the first entry that none comes before, and the one that looks for the first that passes a test.
-use Rattle.std.proofs.Common.{◌≡◌, ℕ, zero, suc, ◌+◌, ◌-◌, ◌<◌, ◌≤◌, Bool, true, false, cond, not, ◌||◌, List, [], ◌∷◌, length, get_or, sym, refl, ap, ◌∙◌, inl, inr, ⊎_elim, arith, below_more}
-use Rattle.std.proofs.lemmas.Bool.{cond-true, cond-false, cases_Bool, both_ways, or_left, or_right, or_from, not_from_true, not_from_false}
+use Rattle.std.proofs.Common.{◌≡◌, ℕ, zero, suc, ◌+◌, ◌-◌, ◌<◌, ◌≤◌, Bool, true, false, List, [], ◌∷◌, length, sym, refl, ap, ◌∙◌, arith, below_more}
+use Rattle.std.proofs.lemmas.Bool.{cond-true, cond-false, both_ways, or_left, or_right, or_from, not_from_true, not_from_false}
 use Rattle.steps.specs.declared.ready.Ready.{Ready}
 use Rattle.steps.specs.Placing.{rising}
 use Rattle.steps.specs.Tests.{any}

@@ -1,6 +1,6 @@
 -- Kept values are the same where their lists are, and what replacing one of them gives.
 use Rattle.std.specs.Prelude.{◌≡◌, ℕ, Bool, true, false, cond, length, slice_index, refl}
-use Rattle.std.proofs.Common.{ap, subst, ◌∙◌}
+use Rattle.std.proofs.Common.{ap, subst}
 use Rattle.std.proofs.Math.Nat.{ℕ_set}
 use Rattle.std.proofs.lemmas.List.{set-get_or, set-set}
 use Rattle.policies.specs.declared.values.Values.{Values}

@@ -1,5 +1,5 @@
 -- What the policies mean.
-use Rattle.std.specs.Prelude.{◌≡◌, ℕ, ◌<◌, Bool, true, false, cond, not, List, ◌==◌, nat_lt, refl}
+use Rattle.std.specs.Prelude.{ℕ, Bool, true, false, cond, not, List, ◌==◌, nat_lt, refl}
 use Rattle.steps.specs.declared.ready.Ready.{Ready}
 use Rattle.steps.specs.Placing.{Placing}
 use Rattle.steps.specs.Tests.{any}

@@ -4,7 +4,7 @@ use Rattle.std.proofs.lemmas.Bool.{cond_both}
 use Rattle.steps.specs.declared.row.Row.{Row}
 use Rattle.steps.specs.declared.step.Step.{Step}
 use Rattle.steps.specs.Placing.{Placing}
-use Rattle.steps.specs.Sheet.{step, Descending}
+use Rattle.steps.specs.Sheet.{Descending}
 use Rattle.ways.specs.Ways.{Set, Feeds}
 use Rattle.schedules.specs.Timetables.{All, Has, Two, InOrder, latest, end_of, Takes, Differ, Apart, Waits, ValidTimetable}
 use Rattle.schedules.specs.Dispatch.{State, final, timetable, empty_state}

@@ -1,7 +1,7 @@
 -- What plan's answer and rows say of ways and timetables.
-use Rattle.std.proofs.Common.{◌≡◌, ℕ, zero, suc, ◌+◌, ◌-◌, ◌*◌, ◌<◌, ◌≤◌, Bool, true, false, cond, ltb, List, [], ◌++◌, length, take, drop, Some, None, Ok, Err, Option, Result, sym, refl, ap, ◌∙◌, subst, add-mul, mul-le-mul_left, arith}
+use Rattle.std.proofs.Common.{◌≡◌, ℕ, zero, suc, ◌+◌, ◌-◌, ◌*◌, ◌<◌, ◌≤◌, Bool, true, false, cond, ltb, List, length, take, drop, Some, None, Ok, Err, Option, Result, sym, refl, ap, ◌∙◌, subst, add-mul, mul-le-mul_left, arith}
 use Rattle.std.proofs.lemmas.List.{take-append-le, take_all}
-use Rattle.std.proofs.lemmas.Bool.{cond-false, le-ltb}
+use Rattle.std.proofs.lemmas.Bool.{le-ltb}
 use Rattle.std.specs.Option.{option_map}
 use Rattle.steps.proofs.Clashes.{clash}
 use Rattle.steps.specs.declared.refusal.Refusal.{Refusal}
@@ -12,24 +12,23 @@ use Rattle.steps.specs.Numbers.{number, told}
 use Rattle.steps.specs.Placing.{Placing}
 use Rattle.steps.specs.Sheet.{Sheet, Descending}
 use Rattle.ways.specs.Sums.{minutes_of, chain_of}
-use Rattle.ways.specs.Ways.{Set, Way, Open}
+use Rattle.ways.specs.Ways.{Set, Way}
 use Rattle.plans.specs.declared.Plan.{Plan as Choice}
 use Rattle.plans.specs.Plan.{planned, planned_way}
 use Rattle.plans.specs.Planned.{Plans, PlansOrNone}
 use Rattle.plans.specs.Scores.{score_of}
 use Rattle.plans.proofs.Planned.{planned_right}
 use Rattle.plans.proofs.Rule.{planned_keeps, planned_only}
-use Rattle.schedules.specs.Dispatch.{timetable, finish}
-use Rattle.schedules.specs.Rule.{Dispatched}
-use Rattle.schedules.specs.Timetables.{ValidTimetable, latest, end_of}
+use Rattle.schedules.specs.Dispatch.{finish}
+use Rattle.schedules.specs.Timetables.{ValidTimetable, latest}
 use Rattle.schedules.proofs.Bounds.{lower_bounds}
 use Rattle.schedules.proofs.RuleMet.{dispatch_meets_rule}
 use Rattle.schedules.proofs.RuleUnique.{rule_unique}
 use Rattle.schedules.proofs.Runs.{dispatch_valid, dispatch_bound}
 use Rattle.planning.specs.declared.Plan.{Plan}
-use Rattle.planning.specs.Planning.{chosen_plan, chosen_rows, plan_of, or_no_rows, rows_of, written}
+use Rattle.planning.specs.Planning.{chosen_plan, chosen_rows, or_no_rows, written}
 use Rattle.sheet.specs.Least.{Shut}
-use Rattle.sheet.specs.Planning.{plan_or_none, plan_answer, plan_rows, WithinLimit, Planned, PlanPromise}
+use Rattle.sheet.specs.Planning.{plan_or_none, plan_answer, plan_rows, Planned, PlanPromise}
 
 -- what is at most a way's score is within the limit of each valid timetable of that way
 score_limit : (m : ℕ) (ss : List Step) (w : Set) (rows : List Row) (bound : ℕ) → 0 < m → Descending ss → Way ss w → ValidTimetable m ss w rows → bound ≤ score_of m ss w → bound ≤ (2 * m - 1) * latest rows

@@ -28,9 +28,7 @@ fn texts(rt: HostRuntime) -> Result<(), Fail> {
     for (from, to, new, text) in LISTINGS {
         let file = replaced(rt.alloc(), from, to, new)?;
         let mut buffer = vec![in rt.alloc(); 0xaau8; LISTING_BYTES]?;
-        let Ok(size) = list_job(file.as_slice(), &mut buffer) else {
-            return Err(Fail::new("the buffer is refused"));
-        };
+        let size = list_job(file.as_slice(), &mut buffer).expect(&rt, "the buffer is refused");
         assert_eq!(rt; buffer.as_slice().get(0..size), Some(text.as_bytes()));
         assert_eq!(rt; buffer.as_slice().get(size).copied(), Some(0xaa));
     }

@@ -1,7 +1,6 @@
 -- A tail is the step's minutes and the tail of its target, and fits.
-use Rattle.std.proofs.Common.{◌≡◌, suc, ◌+◌, ◌*◌, ◌<◌, ◌≤◌, length, sym, ◌∙◌, arith}
+use Rattle.std.proofs.Common.{◌≡◌, ◌+◌, arith}
 use Rattle.steps.specs.Limits.{max_minutes}
-use Rattle.steps.specs.Sheet.{step}
 use Rattle.ways.specs.Paths.{tail}
 use Rattle.plans.proofs.Bounds.{tail_most}
 use Rattle.plans.proofs.Chains.{tails_right}

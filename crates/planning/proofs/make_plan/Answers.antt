@@ -1,14 +1,11 @@
 -- The marks are the planned way, so what is dispatched is its timetable.
-use Rattle.std.proofs.Common.{◌≡◌, ◌<◌, ◌≤◌, ◌++◌, length, take, drop, Some, sym, ap, ◌∙◌, subst, ap₂, arith}
+use Rattle.std.proofs.Common.{◌≡◌, ◌++◌, length, take, drop, Some, sym, ap, ◌∙◌, subst, ap₂, arith}
 use Rattle.std.specs.Option.{option_map}
 use Rattle.std.proofs.lemmas.List.{take-append-drop}
 use Rattle.steps.specs.Limits.{max_steps}
 use Rattle.ways.specs.Ways.{Way}
 use Rattle.plans.specs.Plan.{planned, planned_way}
-use Rattle.plans.specs.Planned.{PlansOrNone}
-use Rattle.plans.proofs.Planned.{planned_right}
 use Rattle.schedules.specs.Dispatch.{timetable, finish}
-use Rattle.dispatch.specs.Members.{members}
 use Rattle.planning.specs.Planning.{chosen_plan, chosen_rows, or_no_rows, written}
 use Rattle.planning.proofs.Members.{marks_way, planned_is_way}
 use Rattle.planning.proofs.make_plan.Goals as goal

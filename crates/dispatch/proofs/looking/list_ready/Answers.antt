@@ -1,10 +1,9 @@
 -- A step that is ready is listed, and no other.
-use Rattle.std.proofs.Common.{◌≡◌, ℕ, ◌<◌, Bool, true, false, not, ◌&&◌, ◌++◌, length, get_or, take, sym, refl, ap, ◌∙◌, subst, append-nil, arith, rules}
+use Rattle.std.proofs.Common.{◌≡◌, ℕ, ◌<◌, false, ◌++◌, length, get_or, take, sym, ap, ◌∙◌, append-nil, arith}
 use Rattle.std.proofs.lemmas.List.{at_drop_all}
 use Rattle.steps.specs.Limits.{max_steps}
 use Rattle.steps.proofs.Repeats.{repeated}
-use Rattle.ways.specs.Ways.{Set}
-use Rattle.schedules.specs.Dispatch.{fed, ready_among, readies}
+use Rattle.schedules.specs.Dispatch.{ready_among, readies}
 use Rattle.dispatch.specs.Members.{members}
 use Rattle.dispatch.specs.Tracking.{started_by, done_by}
 use Rattle.dispatch.proofs.Listing.{listed_more, listed_same, not_waiting}

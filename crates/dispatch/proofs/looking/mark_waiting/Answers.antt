@@ -1,7 +1,6 @@
 -- One step more is looked at, from the highest down; the feeders of a step are all above it.
-use Rattle.std.proofs.Common.{◌≡◌, ℕ, suc, ◌+◌, ◌-◌, ◌<◌, ◌≤◌, false, not, length, get_or, drop, sym, ap, ◌∙◌, subst, arith}
+use Rattle.std.proofs.Common.{◌≡◌, ℕ, suc, ◌-◌, ◌<◌, false, not, length, get_or, drop, sym, ap, ◌∙◌, subst, arith}
 use Rattle.std.proofs.lemmas.List.{at_drop_all}
-use Rattle.steps.specs.Sheet.{step}
 use Rattle.schedules.specs.Dispatch.{fed}
 use Rattle.dispatch.specs.Members.{members}
 use Rattle.dispatch.specs.Tracking.{done_by}

@@ -1,6 +1,6 @@
 -- One turn more.
-use Rattle.std.proofs.Common.{◌≡◌, ◌*◌, length, sym, ap, ◌∙◌, subst, arith}
-use Rattle.schedules.specs.Dispatch.{turn, turns, empty_state}
+use Rattle.std.proofs.Common.{sym, ap, ◌∙◌, subst, arith}
+use Rattle.schedules.specs.Dispatch.{turn, empty_state}
 use Rattle.schedules.specs.Greedy.{Greedy, starts}
 use Rattle.schedules.proofs.Limits.{turns_add}
 use Rattle.schedules.proofs.Turns.{turns_greedy}
