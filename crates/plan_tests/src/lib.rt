@@ -4,7 +4,7 @@
 #[cfg(test)]
 mod extremes;
 #[cfg(test)]
-mod planning;
+mod planned;
 #[cfg(test)]
 mod plans;
 #[cfg(test)]

@@ -10,7 +10,7 @@ mod asking;
 mod crew;
 mod drafting;
 mod files;
-mod planning;
+mod scheduling;
 mod viewing;
 
 // A sheet that still takes steps. The first `count` of the table are its steps.
