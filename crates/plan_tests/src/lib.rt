@@ -2,11 +2,11 @@
 #![tactic(auto)]
 
 #[cfg(test)]
+mod enumerated;
+#[cfg(test)]
 mod extremes;
 #[cfg(test)]
 mod planned;
-#[cfg(test)]
-mod plans;
 #[cfg(test)]
 mod timetables;
 #[cfg(test)]

@@ -1,5 +1,5 @@
 // Plans of sheets whose ways are enumerated, and timetables of ways that are simulated.
-use crate::plans::PLANS;
+use crate::enumerated::PLANS;
 use crate::timetables::TIMETABLES;
 use policies::{LongestTail, Policy, SheetOrder};
 use sheet::{Draft, Issued};
