@@ -1,5 +1,5 @@
 -- What stands in the table of a limit.
-use Rattle.std.specs.Prelude.{◌≡◌, ℕ, suc, ◌+◌, ◌*◌, ◌<◌, ◌≤◌, Bool, true, false, cond, ◌&&◌, List, length, get_or, drop, Some, None, Option, ◌==◌, nat_le, slice_index_or}
+use Rattle.std.specs.Prelude.{◌≡◌, ℕ, suc, ◌+◌, ◌*◌, ◌<◌, ◌≤◌, Bool, true, false, cond, ◌&&◌, List, length, drop, Some, None, Option, ◌==◌, nat_le, slice_index_or}
 use Rattle.std.specs.Option.{option_map}
 use Rattle.steps.specs.declared.step.Join.{Join}
 use Rattle.steps.specs.declared.step.Join.TheVariants.{And, Or}
@@ -60,4 +60,4 @@ Settled limit ss i es = (k : ℕ) → k < length ss → slice_index_or es k blan
 abbrev pub along : List Step → List Entry → List Bool → ℕ → Bool
 along ss es way k =
     let t = (step ss k).target in
-    slice_index_or way t false && chosen (step ss t).join (k == (get_or es t blank_entry).feeder)
+    slice_index_or way t false && chosen (step ss t).join (k == (slice_index_or es t blank_entry).feeder)

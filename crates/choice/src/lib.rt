@@ -5,8 +5,8 @@ ghost use Rattle.std.specs.Prelude.{◌≡◌, ℕ, ◌<◌, ◌≤◌, false, l
 ghost use Rattle.steps.specs.Limits.{max_benches};
 ghost use Rattle.steps.specs.Sheet.{step};
 ghost use Rattle.plans.specs.Limited.{at_limit, taken_at};
-ghost use Rattle.plans.specs.Limits.{limits as Limits-of};
-ghost use Rattle.plans.specs.Plan.{consider as better-plan, planned as plan_of};
+ghost use Rattle.plans.specs.Limits.{limits as limits_of};
+ghost use Rattle.plans.specs.Plan.{consider as better_plan, planned as plan_of};
 ghost use Rattle.paths.specs.Tails.{WithTails};
 ghost use Rattle.choice.specs.Tables.{Marked};
 ghost use Rattle.choice.specs.Entries.{Within, along};
@@ -26,8 +26,8 @@ mod settling;
 pub fn limits(steps: &[Step], tails: &[u32], limits: &mut [u32]) -> usize
     requires sheet { WithTails steps.now tails.now }
     requires room { length steps.now ≤ length limits.old }
-    ensures front { take result limits.new ≡ Limits-of steps.now }
-    ensures count { result ≡ length (Limits-of steps.now) }
+    ensures front { take result limits.new ≡ limits_of steps.now }
+    ensures count { result ≡ length (limits_of steps.now) }
     ensures few { result ≤ length steps.now }
     ensures behind { drop result limits.new ≡ drop result limits.old }
 {
@@ -96,7 +96,7 @@ fn consider(benches: u8, limit: u32, sums: Option<Sums>, best: Option<Plan>) -> 
     requires some { 1 ≤ benches }
     requires few { benches ≤ max_benches }
     requires within { Within sums }
-    ensures { result ≡ better-plan benches limit sums best }
+    ensures { result ≡ better_plan benches limit sums best }
 {
     let Some(sums) = sums else {
         return best;

@@ -4,7 +4,7 @@ ghost use Rattle.steps.specs.Sheet.{step};
 ghost use Rattle.ways.specs.Least.{plus_all};
 ghost use Rattle.ways.specs.Paths.{tail};
 ghost use Rattle.ways.specs.Progress.{folded};
-ghost use Rattle.ways.specs.Taken.{wins as no-worse};
+ghost use Rattle.ways.specs.Taken.{wins as no_worse};
 ghost use Rattle.plans.specs.Leaves.{is_leaf};
 ghost use Rattle.plans.specs.Limited.{both};
 ghost use Rattle.paths.specs.Tails.{WithTails};
@@ -150,7 +150,7 @@ fn add(feeder: Option<Sums>, so_far: Option<Sums>) -> Option<Sums>
 
 // One feeder: whether the next one has no more minutes than the best of higher number.
 fn wins(feeder: Option<Sums>, best: Option<Sums>) -> bool
-    ensures { result ≡ no-worse both true feeder best }
+    ensures { result ≡ no_worse both true feeder best }
 {
     match (feeder, best) {
         (Some(feeder), Some(best)) => feeder.work <= best.work,

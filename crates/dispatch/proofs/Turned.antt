@@ -75,13 +75,13 @@ begins benches ss p w st r e = go (chosen p (ready_list ss w st)) refl (free ben
         let at = chosen_at p (ready_list ss w st) q a in
         let own = entry_minutes ss (ready ss w st) (tail ss) 0 ss refl (p.place (ready_list ss w st)) at.0 in
         let minutes : q.minutes ≡ (step ss q.step).minutes = subst (λ x. x.minutes ≡ (step ss x.step).minutes) at.1 own in
-        let is-named : named p (ready_list ss w st) ≡ Some q.step = named_as p (ready_list ss w st) ∙ ap (option_map (λ x. x.step)) a in
-        let right = named_right p ss w st q.step is-named in
+        let is_named : named p (ready_list ss w st) ≡ Some q.step = named_as p (ready_list ss w st) ∙ ap (option_map (λ x. x.step)) a in
+        let right = named_right p ss w st q.step is_named in
         let is : ◌≡◌ {A = Row} (record { step = q.step; bench = bench; start = st.now; end = st.now + q.minutes }) r = cc in
         let same : q.step ≡ r.step = ap (λ x. x.step) is in
         let ends : r.end ≡ st.now + (step ss r.step).minutes = sym (ap (λ x. x.end) is) ∙ ap (λ n. st.now + n) (minutes ∙ ap (λ k. (step ss k).minutes) same) in
         record {
-          turned = ap₂ (begin_or_wait ss st) is-named b ∙ ap (λ n. moment st.now (record { step = q.step; bench = bench; start = st.now; end = st.now + n } ∷ st.rows)) (sym minutes) ∙ ap (λ x. moment st.now (x ∷ st.rows)) is;
+          turned = ap₂ (begin_or_wait ss st) is_named b ∙ ap (λ n. moment st.now (record { step = q.step; bench = bench; start = st.now; end = st.now + n } ∷ st.rows)) (sym minutes) ∙ ap (λ x. moment st.now (x ∷ st.rows)) is;
           step_inside = omega (arith, right.0, same);
           is_ready_now = subst (λ k. ready ss w st k ≡ true) same right.1;
           bench_inside = b ∙ ap (λ x. Some x.bench) is;

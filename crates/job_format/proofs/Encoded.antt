@@ -51,9 +51,9 @@ pub record Stands (number : ℕ) (s : Step) : Type 0 where
   pub fee : s.fee ≤ max_fee
 
 good_target : (number target : ℕ) → (number ≡ 0 → target ≡ no_target) → (0 < number → target < number) → bad_target number target ≡ false
-good_target number target zero-case more =
+good_target number target zero_case more =
     elim (cases_eq number 0) [
-      | inl e ↦ rw (eq-eqb number 0 e, eq-eqb target no_target (zero-case e)) refl
+      | inl e ↦ rw (eq-eqb number 0 e, eq-eqb target no_target (zero_case e)) refl
       | inr n ↦ rw (ne_eqb number 0 n, lt-leb number target (more (omega arith))) refl
     ]
 

@@ -21,9 +21,9 @@ use Rattle.jobfile.specs.Reading.{Handed, Standing, handed_of, kind_of, record_a
 use Rattle.jobfile.specs.Loading.{Passed}
 
 -- The three tests of an answer, at arbitrary outcomes: the file too long, no bytes left, a fault found.
-module _ (place : ℕ) (stage : Stage) (r : List ℕ) (x : Sheet) (next whole : Result Sheet (ℕ × ℕ)) (tooLong : ℕ × ℕ) where
-  refused_by : (long none : Bool) (found : Option Refusal) → (none ≡ true → whole ≡ at_stop stage place x) → (none ≡ false → whole ≡ unless found place next) → (e : ℕ × ℕ) → cond long (Err tooLong) (cond none (stopped stage place) (judged found place r)) ≡ Err e → cond long (Err tooLong) whole ≡ Err e
-  refused_by true none found a b e h = let h' : ◌≡◌ {A = ℕ × ℕ} tooLong e = cc in ap Err h'
+module _ (place : ℕ) (stage : Stage) (r : List ℕ) (x : Sheet) (next whole : Result Sheet (ℕ × ℕ)) (too_long : ℕ × ℕ) where
+  refused_by : (long none : Bool) (found : Option Refusal) → (none ≡ true → whole ≡ at_stop stage place x) → (none ≡ false → whole ≡ unless found place next) → (e : ℕ × ℕ) → cond long (Err too_long) (cond none (stopped stage place) (judged found place r)) ≡ Err e → cond long (Err too_long) whole ≡ Err e
+  refused_by true none found a b e h = let h' : ◌≡◌ {A = ℕ × ℕ} too_long e = cc in ap Err h'
   refused_by false true found a b e h = a refl ∙ at_stop_gives stage h
     where
       at_stop_gives : (stage : Stage) → stopped stage place ≡ Err e → at_stop stage place x ≡ Err e
@@ -33,7 +33,7 @@ module _ (place : ℕ) (stage : Stage) (r : List ℕ) (x : Sheet) (next whole : 
   refused_by false false None a b e h = clash (cc)
   refused_by false false (Some f) a b e h = let h' : ◌≡◌ {A = ℕ × ℕ} (number f, place) e = cc in b refl ∙ ap Err h'
 
-  ended_by : (long none : Bool) (found : Option Refusal) → (none ≡ true → whole ≡ at_stop stage place x) → cond long (Err tooLong) (cond none (stopped stage place) (judged found place r)) ≡ Ok None → cond long (Err tooLong) whole ≡ Ok x
+  ended_by : (long none : Bool) (found : Option Refusal) → (none ≡ true → whole ≡ at_stop stage place x) → cond long (Err too_long) (cond none (stopped stage place) (judged found place r)) ≡ Ok None → cond long (Err too_long) whole ≡ Ok x
   ended_by true none found a h = clash (cc)
   ended_by false true found a h = a refl ∙ at_stop_gives stage h
     where
@@ -44,7 +44,7 @@ module _ (place : ℕ) (stage : Stage) (r : List ℕ) (x : Sheet) (next whole : 
   ended_by false false None a h = clash (cc)
   ended_by false false (Some f) a h = clash (cc)
 
-  handed_by : (long none : Bool) (found : Option Refusal) (p : Handed) → cond long (Err tooLong) (cond none (stopped stage place) (judged found place r)) ≡ Ok (Some p) → (none ≡ false) × (found ≡ None) × (p.bytes ≡ r) × (p.kind ≡ kind r)
+  handed_by : (long none : Bool) (found : Option Refusal) (p : Handed) → cond long (Err too_long) (cond none (stopped stage place) (judged found place r)) ≡ Ok (Some p) → (none ≡ false) × (found ≡ None) × (p.bytes ≡ r) × (p.kind ≡ kind r)
   handed_by true none found p h = clash (cc)
   handed_by false true found p h = at_stop_gives stage h
     where

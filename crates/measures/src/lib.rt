@@ -1,7 +1,7 @@
 // Measures of ways: what one is, and the three of the counter.
 #![tactic(auto)]
 
-ghost use Rattle.std.specs.Prelude.{◌≡◌, ℕ, leb};
+ghost use Rattle.std.specs.Prelude.{◌≡◌, ℕ, nat_le};
 ghost use Rattle.ways.specs.Measures.{Meaning};
 ghost use Rattle.measures.specs.Plain.{SumsPlain};
 
@@ -36,7 +36,7 @@ pub trait Measure {
         ensures { number self.now result ≡ (meaning self.now).grows step (number self.now a) };
 
     fn not_above(&self, a: Self::Figure, b: Self::Figure) -> bool
-        ensures { result ≡ leb (number self.now a) (number self.now b) };
+        ensures { result ≡ nat_le (number self.now a) (number self.now b) };
 }
 
 // On every sheet the sums of the three measures never stop.

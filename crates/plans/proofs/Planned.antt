@@ -44,10 +44,10 @@ Ahead None ls = Unit {0}
 Ahead (Some p) ls = (l : ℕ) → Among l ls → p.limit < l
 
 -- the better of p and the best so far, which is of a smaller limit
-pub record Improves (p : Plan) (best best-now : Option Plan) : Type 0 where
-  pub arrives : NotAfter best-now p
-  pub keeps : (q : Plan) → NotAfter best q → NotAfter best-now q
-  pub ahead : (ls : List ℕ) → ((l : ℕ) → Among l ls → p.limit < l) → Ahead best ls → Ahead best-now ls
+pub record Improves (p : Plan) (best best_now : Option Plan) : Type 0 where
+  pub arrives : NotAfter best_now p
+  pub keeps : (q : Plan) → NotAfter best q → NotAfter best_now q
+  pub ahead : (ls : List ℕ) → ((l : ℕ) → Among l ls → p.limit < l) → Ahead best ls → Ahead best_now ls
 
 improves : (p : Plan) (best : Option Plan) → ((q : Plan) → best ≡ Some q → q.limit < p.limit) → Improves p best (better p best)
 improves p None h = record { arrives = sooner_self p; keeps = λ q a. absurd a; ahead = λ ls a b. a }

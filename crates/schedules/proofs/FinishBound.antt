@@ -76,19 +76,19 @@ running_left m sheet w now t (l ∷ ls) v (inr h) =
     go k h false e x y c = c
 
 -- the sums: all benches busy, and some bench free
-busy_sum : (k now t u u-after f c c-after : ℕ) → now < t → u ≡ u-after + f → suc k * (t - now) ≤ f → c-after ≤ c → suc k * t + u-after + k * c-after ≤ suc k * now + u + k * c
-busy_sum k now t u u-after f c c-after h e g i =
+busy_sum : (k now t u u_after f c c_after : ℕ) → now < t → u ≡ u_after + f → suc k * (t - now) ≤ f → c_after ≤ c → suc k * t + u_after + k * c_after ≤ suc k * now + u + k * c
+busy_sum k now t u u_after f c c_after h e g i =
     let z : t ≡ now + (t - now) = omega arith in
     let a : suc k * t ≡ suc k * now + suc k * (t - now) = ap (λ x. suc k * x) z ∙ mul-add (suc k) now (t - now) in
     let b = mul-le-mul_left k i in
     omega arith
 
-free_sum : (k now t u u-after f c c-after : ℕ) → now < t → u ≡ u-after + f → t - now ≤ f → c-after + (t - now) ≤ c → suc k * t + u-after + k * c-after ≤ suc k * now + u + k * c
-free_sum k now t u u-after f c c-after h e g i =
+free_sum : (k now t u u_after f c c_after : ℕ) → now < t → u ≡ u_after + f → t - now ≤ f → c_after + (t - now) ≤ c → suc k * t + u_after + k * c_after ≤ suc k * now + u + k * c
+free_sum k now t u u_after f c c_after h e g i =
     let z : t ≡ now + (t - now) = omega arith in
     let a : suc k * t ≡ suc k * now + suc k * (t - now) = ap (λ x. suc k * x) z ∙ mul-add (suc k) now (t - now) in
     let x = suc-mul k (t - now) in
-    let y = mul-add k c-after (t - now) in
+    let y = mul-add k c_after (t - now) in
     let b = mul-le-mul_left k i in
     omega arith
 

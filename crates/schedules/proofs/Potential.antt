@@ -61,11 +61,11 @@ pub work_begin : (sheet : List Step) (w : Set) (st : State) (i b : ℕ) → i < 
 work_begin sheet w st i b l h =
     let x = (step sheet i).minutes in
     let g = unbegun sheet w st.rows in
-    let g-after = unbegun sheet w (begin sheet st i b).rows in
-    let a : sum_below g (length sheet) ≡ sum_below (λ k. g-after k + only (eqb i k) x) (length sheet) =
+    let g_after = unbegun sheet w (begin sheet st i b).rows in
+    let a : sum_below g (length sheet) ≡ sum_below (λ k. g_after k + only (eqb i k) x) (length sheet) =
     ap (λ f. sum_below f (length sheet)) (fun_ext (λ k. begun_step (eqb i k) (w k) (begun k st.rows) (step sheet k).minutes x
     (λ v. let q : i ≡ k = eqb-true i k v in rw q at h) (λ v. let q : i ≡ k = eqb-true i k v in ap (λ k. (step sheet k).minutes) (sym q)))) in
-    let c = below_add g-after (λ k. only (eqb i k) x) (length sheet) in
+    let c = below_add g_after (λ k. only (eqb i k) x) (length sheet) in
     let d = single i x (length sheet) l in
     omega arith
 
@@ -141,7 +141,7 @@ left_begin now i k b x n ls h e = elim (cases_eq i k) [
 
 -- over a stretch of time a step is not begun, has ended, or runs
 abbrev pub Passed : ℕ → Bool → Bool → ℕ → ℕ → Type 0
-Passed d has-begun has_ended before after = ((has-begun ≡ false) × (after ≡ before)) ⊎ (((has_ended ≡ true) × (before ≡ 0) × (after ≡ 0)) ⊎ (after + d ≡ before))
+Passed d has_begun has_ended before after = ((has_begun ≡ false) × (after ≡ before)) ⊎ (((has_ended ≡ true) × (before ≡ 0) × (after ≡ 0)) ⊎ (after + d ≡ before))
 
 pub passing : (now t k n : ℕ) (ls : List Row) → now < t → All (NoEnd now t) ls → Passed (t - now) (begun k ls) (ended now k ls) (left_of now k n ls) (left_of t k n ls)
 passing now t k n [] h a = inl (refl, refl)

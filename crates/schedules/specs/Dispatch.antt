@@ -1,5 +1,5 @@
 -- Dispatching: how a way is carried out on benches, turn by turn.
-use Rattle.std.specs.Prelude.{ℕ, zero, suc, ◌+◌, ◌*◌, min, Bool, true, false, not, ◌&&◌, ◌||◌, List, [], ◌∷◌, reverse, length, drop, Some, None, Option, ◌==◌, nat_eq, nat_le, nat_lt, slice_index_or}
+use Rattle.std.specs.Prelude.{ℕ, zero, suc, ◌+◌, ◌*◌, min, Bool, true, false, not, ◌&&◌, ◌||◌, List, [], ◌∷◌, reverse, length, drop, Some, None, Option, ◌==◌, nat_le, nat_lt, slice_index_or}
 use Rattle.steps.specs.declared.ready.Ready.{Ready}
 use Rattle.steps.specs.declared.row.Row.{Row}
 use Rattle.steps.specs.declared.step.Step.{Step}
@@ -22,7 +22,7 @@ abbrev pub busy : ℕ → ℕ → List Row → Bool
 busy now b rows = any (λ r. (r.bench == b) && nat_lt now r.end) rows
 
 abbrev pub begun : ℕ → List Row → Bool
-begun i rows = any (λ r. nat_eq r.step i) rows
+begun i rows = any (λ r. r.step == i) rows
 
 abbrev pub ended : ℕ → ℕ → List Row → Bool
 ended now i rows = any (λ r. (r.step == i) && nat_le r.end now) rows

@@ -25,15 +25,15 @@ pub err_none : (o : Option ℕ) (e : ℕ) → reported o ≡ Err e → o ≡ Non
 err_none None e h = refl
 err_none (Some k) e h = clash (cc)
 
-module _ (F : Type 0) (m : Meaning) (figureNumber : F → ℕ) (ss : List Step) (before after : List (Entry F)) where
+module _ (F : Type 0) (m : Meaning) (figure_number : F → ℕ) (ss : List Step) (before after : List (Entry F)) where
   -- the entry that is read of step 0, by its found mark
-  pub first_found : (x : Entry F) → 0 < length ss → length ss ≤ length after → x ≡ get_or after 0 x → Filled m figureNumber ss before after → x.found ≡ true → least_of (numbers m) ss 0 ≡ Some (figureNumber x.figure)
+  pub first_found : (x : Entry F) → 0 < length ss → length ss ≤ length after → x ≡ get_or after 0 x → Filled m figure_number ss before after → x.found ≡ true → least_of (numbers m) ss 0 ≡ Some (figure_number x.figure)
   first_found x some room is_x filled found =
-      sym (ap (λ (v : Shown). v.least) (ap (shown figureNumber) is_x ∙ sym (get_or-map (shown figureNumber) after 0 x (entry_for m None) (omega arith)) ∙ filled.entries 0 some)) ∙ cond-true x.found _ _ found
+      sym (ap (λ (v : Shown). v.least) (ap (shown figure_number) is_x ∙ sym (get_or-map (shown figure_number) after 0 x (entry_for m None) (omega arith)) ∙ filled.entries 0 some)) ∙ cond-true x.found _ _ found
 
-  pub first_none : (x : Entry F) → 0 < length ss → length ss ≤ length after → x ≡ get_or after 0 x → Filled m figureNumber ss before after → x.found ≡ false → least_of (numbers m) ss 0 ≡ None
+  pub first_none : (x : Entry F) → 0 < length ss → length ss ≤ length after → x ≡ get_or after 0 x → Filled m figure_number ss before after → x.found ≡ false → least_of (numbers m) ss 0 ≡ None
   first_none x some room is_x filled missing =
-      sym (ap (λ (v : Shown). v.least) (ap (shown figureNumber) is_x ∙ sym (get_or-map (shown figureNumber) after 0 x (entry_for m None) (omega arith)) ∙ filled.entries 0 some)) ∙ cond-false x.found _ _ missing
+      sym (ap (λ (v : Shown). v.least) (ap (shown figure_number) is_x ∙ sym (get_or-map (shown figure_number) after 0 x (entry_for m None) (omega arith)) ∙ filled.entries 0 some)) ∙ cond-false x.found _ _ missing
 
   module _ (lower_targets : Descending ss) (some : 0 < length ss) (r : Result F Refusal) where
     right : (i : ℕ) → i < length ss → IsLeast (numbers m) ss i (least_of (numbers m) ss i)
@@ -43,7 +43,7 @@ module _ (F : Type 0) (m : Meaning) (figureNumber : F → ℕ) (ss : List Step) 
     shut_none None least shut = refl
     shut_none (Some n) least shut = let w = least.0 in absurd (shut w.0 w.1 w.2)
 
-    pub promised : told_figure figureNumber r ≡ least_answer m ss (length before) → (length before < length ss → after ≡ before) → (length ss ≤ length before → Filled m figureNumber ss before after) → LeastPromise m figureNumber ss before after r
+    pub promised : told_figure figure_number r ≡ least_answer m ss (length before) → (length before < length ss → after ≡ before) → (length ss ≤ length before → Filled m figure_number ss before after) → LeastPromise m figure_number ss before after r
     promised answer short filled = record {
       answer = answer;
       short = short;

@@ -17,7 +17,7 @@ use Rattle.jobfile.specs.Reading.{fault_of}
 abbrev pub open_step : ℕ → Join → ℕ → ℕ → Step
 open_step target join minutes fee = record { target = target; join = join; minutes = minutes; fee = fee; closed = false }
 
--- new: the hand_over alone, and one bench
+-- new: the hand-over alone, and one bench
 abbrev pub new_sheet : Sheet
 new_sheet = record { steps = open_step no_target And 1 0 ∷ []; benches = 1 }
 
