@@ -1,6 +1,7 @@
 // Listings of job files.
 use crate::worked::{FILE, replaced};
 use listing::{LISTING_BYTES, list_job};
+use std::process::Abort;
 use std::test::Fail;
 
 // Bytes of the worked file that are replaced, as in `reading`, and the listing.
@@ -23,14 +24,20 @@ const WORKED: &str =
     "crew 2\nstep 0 target none join AND minutes 2 fee 0 cents open\nstep 1 target 0 join OR minutes 1 fee 0 cents open\nstep 2 target 0 join AND minutes 4 fee 0 cents open\nstep 3 target 1 join AND minutes 6 fee 0 cents open\nstep 4 target 1 join AND minutes 1 fee 0 cents open\nstep 5 target 4 join AND minutes 3 fee 0 cents open\nstep 6 target 4 join AND minutes 3 fee 0 cents open\nsteps 7 open 7 closed 0\nleast minutes 13 chain 7 fees 0\n";
 
 // The text stands at the front of the buffer, and the bytes behind it are kept.
+fn stands(rt: &impl Abort, buffer: &[u8], size: usize, text: &[u8]) {
+    assert_eq!(rt; buffer.get(0..size), Some(text));
+    assert_eq!(rt; buffer.get(size).copied(), Some(0xaa));
+}
+
 #[test]
 fn texts(rt: HostRuntime) -> Result<(), Fail> {
     for (from, to, new, text) in LISTINGS {
         let file = replaced(rt.alloc(), from, to, new)?;
         let mut buffer = vec![in rt.alloc(); 0xaau8; LISTING_BYTES]?;
-        let size = list_job(file.as_slice(), &mut buffer).expect(&rt, "the buffer is refused");
-        assert_eq!(rt; buffer.as_slice().get(0..size), Some(text.as_bytes()));
-        assert_eq!(rt; buffer.as_slice().get(size).copied(), Some(0xaa));
+        let Ok(size) = list_job(file.as_slice(), &mut buffer) else {
+            return Err(Fail::new("the buffer is refused"));
+        };
+        stands(&rt, buffer.as_slice(), size, text.as_bytes());
     }
     Ok(())
 }
