@@ -1,7 +1,7 @@
 -- The sheet of a file's contents.
 use Rattle.std.specs.Prelude.{◌≡◌, ℕ, ◌<◌, ◌≤◌, [], length, Ok, Err, Result}
 use Rattle.steps.specs.Limits.{max_steps}
-use Rattle.steps.specs.Sheet.{Sheet, sheet_of, table_sheet}
+use Rattle.steps.specs.Sheet.{Sheet, sheet_of}
 use Rattle.job_format.specs.Layout.{kind, head_kind, step_kind}
 use Rattle.jobfile.specs.declared.contents.Contents.{Contents}
 use Rattle.jobfile.specs.declared.record.Fault.{Fault}
@@ -9,7 +9,7 @@ use Rattle.jobfile.specs.declared.record.Record.{Record}
 use Rattle.jobfile.specs.Reading.{bytes_of, kind_of, fault_of}
 
 abbrev pub sheet_in : Contents → Sheet
-sheet_in c = table_sheet c.count c.steps c.benches
+sheet_in c = sheet_of c.steps.items c.benches
 
 -- of a file of which nothing is read yet
 abbrev pub empty_sheet : Sheet

@@ -6,10 +6,12 @@ use steps::refusal::Refusal;
 
 mod fields;
 mod judging;
+mod kind;
 mod reading;
 
 pub(crate) use fields::step_in;
-pub(crate) use judging::{EDITION, END, HEAD, HEAD_BODY, STEP, STEP_BODY};
+pub(crate) use judging::{EDITION, HEAD_BODY, STEP_BODY};
+pub(crate) use kind::Kind;
 
 // The longest job file, in bytes.
 pub const MAX_FILE: usize = 65_536;

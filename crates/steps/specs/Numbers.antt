@@ -1,5 +1,6 @@
 -- The numbers of joins and of refusals.
-use Rattle.std.specs.Prelude.{ℕ, cond, Some, None, Ok, Err, Option, Result, ◌==◌}
+use Rattle.std.specs.Prelude.{◌≡◌, ℕ, cond, Some, None, Ok, Err, Option, Result, ◌==◌}
+use Rattle.std.specs.Option.{ok_or}
 use Rattle.steps.specs.declared.refusal.Refusal.{Refusal}
 use Rattle.steps.specs.declared.refusal.Refusal.TheVariants.{NoSuchTarget, UnknownJoin, MinutesOutOfRange, FeeTooHigh, SheetFull, NoSuchStep, BenchesOutOfRange, NoValueKept, NoOpenWay, TableTooShort, FileTooLong, RecordCutShort, UnknownKind, RecordOutOfPlace, WrongBodyLength, TooManySteps, BadField, NoEndRecord, BufferTooShort}
 use Rattle.steps.specs.declared.step.Join.{Join}
@@ -12,6 +13,10 @@ join_number Or = 2
 -- the join of a number, if it is one's
 abbrev pub join_of : ℕ → Option Join
 join_of n = cond (n == 1) (Some And) (cond (n == 2) (Some Or) None)
+
+-- the join of the number, or that it is none's
+abbrev pub JoinDecodes : ℕ → Result Join Refusal → Type 0
+JoinDecodes n r = r ≡ ok_or (join_of n) UnknownJoin
 
 abbrev pub number : Refusal → ℕ
 number NoSuchTarget = 11

@@ -26,12 +26,12 @@ pub enum Refusal {
     BufferTooShort,
 }
 
-impl Refusal {
-    // The number by which users know the reason.
-    pub fn number(self) -> u8
-        ensures { result ≡ number self }
-    {
-        match self {
+// The number by which users know the reason.
+impl From<Refusal> for u8 {
+    ghost from_gives = { λ refusal n. n ≡ number refusal };
+
+    fn from(refusal: Refusal) -> u8 {
+        match refusal {
             Refusal::NoSuchTarget => 11,
             Refusal::UnknownJoin => 12,
             Refusal::MinutesOutOfRange => 13,

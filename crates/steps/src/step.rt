@@ -1,16 +1,19 @@
 // A step of a sheet.
 ghost use Rattle.std.specs.Prelude.{◌≡◌};
-ghost use Rattle.steps.specs.Numbers.{join_number, join_of};
+ghost use Rattle.steps.specs.Numbers.{join_number, JoinDecodes};
+
+use crate::refusal::Refusal;
 
 // What a step waits for: all of its feeders, or exactly one of them.
-#[derive(Clone, Copy, PartialEq, Eq, Debug)]
+#[derive(Clone, Copy, PartialEq, Eq, Debug, Default)]
 pub enum Join {
+    #[default]
     And,
     Or,
 }
 
 // A step leads into the step `target`, or nowhere if it is step 0. `fee` is in cents.
-#[derive(Clone, Copy, PartialEq, Eq, Debug)]
+#[derive(Clone, Copy, PartialEq, Eq, Debug, Default)]
 pub struct Step {
     pub target: u16,
     pub join: Join,
@@ -19,23 +22,28 @@ pub struct Step {
     pub closed: bool,
 }
 
-impl Join {
-    pub fn number(self) -> u8
-        ensures { result ≡ join_number self }
-    {
-        match self {
+// The number by which files and callers name a join.
+impl From<Join> for u8 {
+    ghost from_gives = { λ join number. number ≡ join_number join };
+
+    fn from(join: Join) -> u8 {
+        match join {
             Join::And => 1,
             Join::Or => 2,
         }
     }
+}
 
-    pub fn from_number(number: u8) -> Option<Join>
-        ensures { result ≡ join_of number }
-    {
+impl TryFrom<u8> for Join {
+    type Error = Refusal;
+
+    ghost try_from_gives = { JoinDecodes };
+
+    fn try_from(number: u8) -> Result<Join, Refusal> {
         match number {
-            1 => Some(Join::And),
-            2 => Some(Join::Or),
-            _ => None,
+            1 => Ok(Join::And),
+            2 => Ok(Join::Or),
+            _ => Err(Refusal::UnknownJoin),
         }
     }
 }

@@ -15,7 +15,7 @@ pub(crate) fn step_in(bytes: &[u8]) -> Step
 {
     Step {
         target: word(bytes, 4),
-        join: Join::from_number(bytes[6]).unwrap_or(Join::And),
+        join: Join::try_from(bytes[6]).unwrap_or(Join::And),
         minutes: word(bytes, 8),
         fee: long(bytes, 10),
         closed: bytes[7] == 1,
@@ -40,15 +40,10 @@ impl<'a> Record<'a> {
         ensures { result ≡ head_of self.now }
     {
         match *self {
-            Record::Head(bytes) => {
-                if bytes.len() < 6 {
-                    return None;
-                }
-                Some(HeadFields {
-                    edition: bytes[4],
-                    benches: bytes[5],
-                })
-            }
+            Record::Head([_, _, _, _, edition, benches, ..]) => Some(HeadFields {
+                edition: *edition,
+                benches: *benches,
+            }),
             _ => None,
         }
     }
@@ -58,26 +53,17 @@ impl<'a> Record<'a> {
         ensures { result ≡ step_of self.now }
     {
         match *self {
-            Record::Step(bytes) => {
-                if bytes.len() < 14 {
-                    return None;
-                }
-                Some(step_in(bytes))
-            }
+            Record::Step(bytes) if bytes.len() >= 14 => Some(step_in(bytes)),
             _ => None,
         }
     }
+
     // The free bytes of a note.
     pub fn note(&self) -> Option<&'a [u8]>
         ensures { option_map (λ x. x.now) result ≡ note_of self.now }
     {
         match *self {
-            Record::Note(bytes) => {
-                if bytes.len() < 4 {
-                    return None;
-                }
-                Some(&bytes[4..bytes.len()])
-            }
+            Record::Note(bytes) => bytes.get(4..),
             _ => None,
         }
     }

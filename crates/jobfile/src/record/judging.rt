@@ -1,21 +1,15 @@
 // Whether a record passes, and the first reason why it does not.
-ghost use Rattle.std.specs.Prelude.{◌≡◌, ◌+◌, ◌<◌, ◌≤◌, length};
-ghost use Rattle.job_format.specs.Layout.{word, long, bad_head, bad_target, bad_join, bad_step, unknown, misplaced, wrong_length, fault};
+ghost use Rattle.std.specs.Prelude.{◌≡◌, ◌+◌, ◌<◌, ◌≤◌, length, IfOk};
+ghost use Rattle.std.specs.Result.{result_err};
+ghost use Rattle.job_format.specs.Layout.{word, long, kind, bad_head, bad_target, bad_join, bad_step, misplaced, wrong_length, fault};
 ghost use Rattle.job_format.specs.Decoding.{first};
+ghost use Rattle.jobfile.specs.Kinds.{kind_number};
 
+use super::Kind;
 use job_format::Stage;
 use steps::limits::{MAX_BENCHES, MAX_FEE, MAX_MINUTES, NO_TARGET};
 use steps::refusal::Refusal;
 use steps::step::Join;
-
-// The numbers of the kinds.
-pub(crate) const HEAD: u16 = 1;
-
-pub(crate) const STEP: u16 = 2;
-
-pub(crate) const END: u16 = 3;
-
-pub(crate) const NOTE: u16 = 4;
 
 // The lengths of bodies; a note's is at least 1, and an end has none.
 pub(crate) const HEAD_BODY: u16 = 2;
@@ -51,37 +45,27 @@ pub(super) fn first<'a>(bytes: &'a [u8]) -> &'a [u8]
         return bytes;
     }
     let size = 4 + word(bytes, 0) as usize;
-    if size < bytes.len() {
-        &bytes[0..size]
-    } else {
-        bytes
-    }
+    bytes.get(..size).unwrap_or(bytes)
 }
 
-fn is_unknown(kind: u16) -> bool
-    ensures { result ≡ unknown kind }
-{
-    kind < HEAD || kind > NOTE
-}
-
-fn is_misplaced(stage: Stage, steps: usize, kind: u16) -> bool
-    ensures { result ≡ misplaced stage steps kind }
+fn is_misplaced(stage: Stage, steps: usize, kind: Kind) -> bool
+    ensures { result ≡ misplaced stage steps (kind_number kind) }
 {
     match stage {
-        Stage::Start => kind != HEAD,
-        Stage::Body => kind == HEAD || kind == END && steps == 0,
+        Stage::Start => kind != Kind::Head,
+        Stage::Body => kind == Kind::Head || kind == Kind::End && steps == 0,
         Stage::Finished => true,
     }
 }
 
-fn is_wrong_length(kind: u16, size: u16) -> bool
-    ensures { result ≡ wrong_length kind size }
+fn is_wrong_length(kind: Kind, size: u16) -> bool
+    ensures { result ≡ wrong_length (kind_number kind) size }
 {
     match kind {
-        HEAD => size != HEAD_BODY,
-        STEP => size != STEP_BODY,
-        END => size != 0,
-        _ => size < 1 || size > MAX_NOTE,
+        Kind::Head => size != HEAD_BODY,
+        Kind::Step => size != STEP_BODY,
+        Kind::End => size != 0,
+        Kind::Note => size < 1 || size > MAX_NOTE,
     }
 }
 
@@ -105,10 +89,10 @@ fn is_bad_target(number: usize, target: u16) -> bool
 fn is_bad_join(number: usize, join: u8) -> bool
     ensures { result ≡ bad_join number join }
 {
-    match Join::from_number(join) {
-        Some(Join::And) => false,
-        Some(Join::Or) => number == 0,
-        None => true,
+    match Join::try_from(join) {
+        Ok(Join::And) => false,
+        Ok(Join::Or) => number == 0,
+        Err(_) => true,
     }
 }
 
@@ -125,34 +109,35 @@ fn is_bad_step(number: usize, bytes: &[u8]) -> bool
         || long(bytes, 10) > MAX_FEE
 }
 
-// The first reason that fits a record, after `steps` steps of at most `limit`.
-pub(super) fn judge(limit: usize, stage: Stage, steps: usize, bytes: &[u8]) -> Option<Refusal>
-    ensures { result ≡ fault limit stage steps bytes.now }
+// The kind of a record that passes after `steps` steps of at most `limit`, or the first reason that fits it.
+pub(super) fn judge(limit: usize, stage: Stage, steps: usize, bytes: &[u8]) -> Result<Kind, Refusal>
+    ensures refused { result_err result ≡ fault limit stage steps bytes.now }
+    ensures passed { IfOk result (λ k. kind_number k ≡ kind bytes.now) }
 {
     if bytes.len() < 4 {
-        return Some(Refusal::RecordCutShort);
+        return Err(Refusal::RecordCutShort);
     }
     let size = word(bytes, 0);
-    let kind = word(bytes, 2);
     if bytes.len() < 4 + size as usize {
-        return Some(Refusal::RecordCutShort);
+        return Err(Refusal::RecordCutShort);
     }
-    if is_unknown(kind) {
-        return Some(Refusal::UnknownKind);
-    }
+    let kind = Kind::try_from(word(bytes, 2))?;
     if is_misplaced(stage, steps, kind) {
-        return Some(Refusal::RecordOutOfPlace);
+        return Err(Refusal::RecordOutOfPlace);
     }
     if is_wrong_length(kind, size) {
-        return Some(Refusal::WrongBodyLength);
+        return Err(Refusal::WrongBodyLength);
     }
-    if kind == STEP && steps >= limit {
-        return Some(Refusal::TooManySteps);
+    if kind == Kind::Step && steps >= limit {
+        return Err(Refusal::TooManySteps);
     }
     let bad = match kind {
-        HEAD => is_bad_head(bytes),
-        STEP => is_bad_step(steps, bytes),
-        _ => false,
+        Kind::Head => is_bad_head(bytes),
+        Kind::Step => is_bad_step(steps, bytes),
+        Kind::End | Kind::Note => false,
     };
-    if bad { Some(Refusal::BadField) } else { None }
+    if bad {
+        return Err(Refusal::BadField);
+    }
+    Ok(kind)
 }

@@ -1,11 +1,12 @@
 // The reader's calls.
-ghost use Rattle.std.specs.Prelude.{◌≡◌, ◌<◌, ◌≤◌};
+ghost use Rattle.std.specs.Prelude.{◌≡◌, ◌<◌};
 ghost use Rattle.steps.specs.Limits.{max_steps};
 ghost use Rattle.job_format.specs.Layout.{stage_after, steps_after, step_kind};
+ghost use Rattle.jobfile.specs.Kinds.{kind_number};
 ghost use Rattle.jobfile.specs.Reading.{bytes_of, kind_of, standing, at_start, told_next, next_answer, FieldsGiven, standing_after};
 
-use super::judging::{END, HEAD, STEP, first, judge, word};
-use super::{Fault, MAX_FILE, Placed, Reader, Record};
+use super::judging::{first, judge};
+use super::{Fault, Kind, MAX_FILE, Placed, Reader, Record};
 use job_format::Stage;
 use steps::limits::MAX_STEPS;
 use steps::refusal::Refusal;
@@ -47,11 +48,11 @@ impl<'a> Reader<'a> {
                 }),
             };
         }
-        let bytes = first(&file[place..file.len()]);
-        if let Some(refusal) = judge(MAX_STEPS, self.stage, self.steps, bytes) {
-            return Err(Fault { refusal, place });
-        }
-        let kind = word(bytes, 2);
+        let bytes = first(&file[place..]);
+        let kind = match judge(MAX_STEPS, self.stage, self.steps, bytes) {
+            Ok(kind) => kind,
+            Err(refusal) => return Err(Fault { refusal, place }),
+        };
         self.place = place + bytes.len();
         self.stage = stage_after(self.stage, kind);
         self.steps = steps_after(self.steps, kind);
@@ -60,31 +61,31 @@ impl<'a> Reader<'a> {
     }
 }
 
-fn stage_after(stage: Stage, kind: u16) -> Stage
-    ensures { result ≡ stage_after stage kind }
+fn stage_after(stage: Stage, kind: Kind) -> Stage
+    ensures { result ≡ stage_after stage (kind_number kind) }
 {
     match kind {
-        HEAD => Stage::Body,
-        END => Stage::Finished,
-        _ => stage,
+        Kind::Head => Stage::Body,
+        Kind::End => Stage::Finished,
+        Kind::Step | Kind::Note => stage,
     }
 }
 
-fn steps_after(steps: usize, kind: u16) -> usize
-    requires { kind ≡ step_kind → steps < max_steps }
-    ensures { result ≡ steps_after steps kind }
+fn steps_after(steps: usize, kind: Kind) -> usize
+    requires { kind_number kind ≡ step_kind → steps < max_steps }
+    ensures { result ≡ steps_after steps (kind_number kind) }
 {
-    if kind == STEP { steps + 1 } else { steps }
+    if kind == Kind::Step { steps + 1 } else { steps }
 }
 
-fn record_of<'a>(kind: u16, bytes: &'a [u8]) -> Record<'a>
+fn record_of<'a>(kind: Kind, bytes: &'a [u8]) -> Record<'a>
     ensures bytes { bytes_of result ≡ bytes.now }
-    ensures kind { 1 ≤ kind → kind ≤ 4 → kind_of result ≡ kind }
+    ensures kind { kind_of result ≡ kind_number kind }
 {
     match kind {
-        HEAD => Record::Head(bytes),
-        STEP => Record::Step(bytes),
-        END => Record::End(bytes),
-        _ => Record::Note(bytes),
+        Kind::Head => Record::Head(bytes),
+        Kind::Step => Record::Step(bytes),
+        Kind::End => Record::End(bytes),
+        Kind::Note => Record::Note(bytes),
     }
 }

@@ -1,3 +1,0 @@
--- Lemmas on text in a buffer.
-pub mod Digits
-pub mod Puts
