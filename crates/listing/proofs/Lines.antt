@@ -2,9 +2,13 @@
 use Rattle.std.proofs.Common.{◌≡◌, ℕ, suc, ◌+◌, ◌-◌, ◌*◌, ◌<◌, ◌≤◌, Bool, true, false, cond, eqb, List, [], ◌∷◌, ◌++◌, length, get_or, take, drop, Some, None, codes, decimal, Option, sym, refl, ap, ◌∙◌, subst, inl, inr, add-zero, arith}
 use Rattle.std.proofs.lemmas.Fmt.{length-decimal-le}
 use Rattle.std.proofs.lemmas.List.{append_assoc, append-nil, length-append, length-take-le, take_more, take-append-drop}
+use Rattle.std.proofs.lemmas.List.Sums.{count_by-le-length}
 use Rattle.std.proofs.lemmas.Bool.{cases_eq}
 use Rattle.std.specs.Option.{option_map}
 use Rattle.steps.proofs.Clashes.{clash}
+use Rattle.steps.specs.declared.refusal.Refusal.{Refusal}
+use Rattle.steps.specs.declared.refusal.Refusal.TheVariants.{NoSuchTarget, UnknownJoin, MinutesOutOfRange, FeeTooHigh, SheetFull, NoSuchStep, BenchesOutOfRange, NoValueKept, NoOpenWay, TableTooShort, FileTooLong, RecordCutShort, UnknownKind, RecordOutOfPlace, WrongBodyLength, TooManySteps, BadField, NoEndRecord, BufferTooShort}
+use Rattle.steps.specs.Numbers.{number}
 use Rattle.steps.specs.declared.step.Join.{Join}
 use Rattle.steps.specs.declared.step.Join.TheVariants.{And, Or}
 use Rattle.steps.specs.declared.step.Step.{Step}
@@ -25,8 +29,8 @@ four a b c d = simp length-append
 pub length_step_line : (i : ℕ) (s : Step) → length (step_line i s) ≡ length (codes "step " ++ decimal i) + length (target_text s.target) + length (join_text s.join) + length (codes " minutes " ++ decimal s.minutes) + length (codes " fee " ++ decimal s.fee) + length (state_text s.closed) + 1
 length_step_line i s = six (codes "step " ++ decimal i) (target_text s.target) (join_text s.join) (codes " minutes " ++ decimal s.minutes) (codes " fee " ++ decimal s.fee) (state_text s.closed) newline
   where
-    six : (a b c d e f g : List ℕ) → length (a ++ b ++ c ++ d ++ e ++ f ++ g) ≡ length a + length b + length c + length d + length e + length f + length g
-    six a b c d e f g = simp length-append
+    six : (a b c d e f g : List ℕ) → length (a ++ b ++ c ++ (d ++ e ++ f ++ g)) ≡ length a + length b + length c + length d + length e + length f + length g
+    six a b c d e f g = simp length-append (omega arith)
 
 pub length_count_line : (all closed : ℕ) → length (count_line all closed) ≡ length (codes "steps " ++ decimal all) + length (codes " open " ++ decimal (all - closed)) + length (codes " closed " ++ decimal closed) + 1
 length_count_line all closed = four (codes "steps " ++ decimal all) (codes " open " ++ decimal (all - closed)) (codes " closed " ++ decimal closed) newline
@@ -72,18 +76,6 @@ lines_room ss i d h =
 pub length_sheet_lines : (s : Sheet) → length (sheet_lines s) ≡ length (crew_line s.benches) + length (step_lines 0 s.steps) + length (count_line (length s.steps) (closed_count s.steps))
 length_sheet_lines s = three (crew_line s.benches) (step_lines 0 s.steps) (count_line (length s.steps) (closed_count s.steps))
 
--- how many are closed, one step more
-closed_append : (xs ys : List Step) → closed_count (xs ++ ys) ≡ closed_count xs + closed_count ys
-closed_append [] ys = omega arith
-closed_append (x ∷ xs) ys = let h = closed_append xs ys in omega arith
-
-pub closed_more : (ss : List Step) (i : ℕ) (d : Step) → i < length ss → closed_count (take (i + 1) ss) ≡ closed_count (take i ss) + cond (get_or ss i d).closed 1 0
-closed_more ss i d h = ap closed_count (take_more ss i d h) ∙ closed_append (take i ss) (get_or ss i d ∷ []) ∙ omega arith
-
-pub closed_most : (ss : List Step) → closed_count ss ≤ length ss
-closed_most [] = omega arith
-closed_most (s ∷ ss) = let h = closed_most ss in elim s.closed as (λ b. cond b 1 0 + closed_count ss ≤ suc (length ss)) [ true ↦ omega arith | false ↦ omega arith ]
-
 -- The longest lines.
 
 short_target : (t : ℕ) → t < 65536 → length (target_text t) ≤ 13
@@ -115,6 +107,9 @@ short_lines i (s ∷ ss) h =
     let here : length (step_line i s) ≤ 70 = subst (λ n. length (step_line n s) ≤ 70) (add-zero i) (h 0 (omega arith)) in
     let rest = short_lines (suc i) ss (λ k l. subst (λ n. length (step_line n (step ss k)) ≤ 70) (let z : i + suc k ≡ suc i + k = omega arith in z) (h (suc k) (omega arith))) in
     omega (arith, length-append (step_line i s) (step_lines (suc i) ss), here, rest)
+
+pub small_number : (e : Refusal) → number e < 256
+small_number e = elim e as (λ k. number k < 256) [ NoSuchTarget ↦ omega arith | UnknownJoin ↦ omega arith | MinutesOutOfRange ↦ omega arith | FeeTooHigh ↦ omega arith | SheetFull ↦ omega arith | NoSuchStep ↦ omega arith | BenchesOutOfRange ↦ omega arith | NoValueKept ↦ omega arith | NoOpenWay ↦ omega arith | TableTooShort ↦ omega arith | FileTooLong ↦ omega arith | RecordCutShort ↦ omega arith | UnknownKind ↦ omega arith | RecordOutOfPlace ↦ omega arith | WrongBodyLength ↦ omega arith | TooManySteps ↦ omega arith | BadField ↦ omega arith | NoEndRecord ↦ omega arith | BufferTooShort ↦ omega arith ]
 
 pub short_turned_down : (n p : ℕ) → n < 256 → p < 18446744073709551616 → length (turned_down (n, p)) ≤ 40
 short_turned_down n p a b =
@@ -160,7 +155,7 @@ listing_fits s w =
     let ss = s.steps in
     let n = length ss in
     let size = w.size in
-    let most = closed_most ss in
+    let most = count_by-le-length (λ (s : Step). s.closed) ss in
     let target : (k : ℕ) → k < n → (step ss k).target < 65536 = λ k l. elim (cases_eq k 0) [ inl e ↦ omega (arith, ap (λ x. (step ss x).target) e, w.rooted.0) | inr z ↦ omega (arith, w.descending k (omega arith) l) ] in
     let lines = short_lines 0 ss (λ k l. subst (λ i. length (step_line i (step ss k)) ≤ 70) (let z : k ≡ 0 + k = omega arith in z) (short_step k (step ss k) (omega arith) (target k l) (w.timed k l).1 (w.priced k l))) in
     let crew = length-decimal-le 2 s.benches (omega arith) (omega (arith, w.crewed)) (omega (arith, w.crewed)) in

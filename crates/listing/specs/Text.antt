@@ -1,5 +1,6 @@
 -- The listing of a job file, as the bytes of its text.
-use Rattle.std.specs.Prelude.{ℕ, suc, ◌+◌, ◌-◌, Bool, cond, List, [], ◌∷◌, ◌++◌, length, drop, Some, None, Ok, Err, codes, decimal, Option, Result, ◌==◌, nat_lt}
+use Rattle.std.specs.Prelude.{ℕ, suc, ◌-◌, Bool, cond, List, [], ◌∷◌, ◌++◌, length, drop, Some, None, Ok, Err, codes, decimal, Option, Result, ◌==◌, nat_lt}
+use Rattle.std.specs.List.{count_by}
 use Rattle.steps.specs.declared.refusal.Refusal.TheVariants.{TableTooShort}
 use Rattle.steps.specs.declared.step.Join.{Join}
 use Rattle.steps.specs.declared.step.Join.TheVariants.{And, Or}
@@ -30,9 +31,12 @@ join_text Or = codes " join OR"
 abbrev pub state_text : Bool → List ℕ
 state_text closed = cond closed (codes " cents closed") (codes " cents open")
 
+abbrev pub amounts_text : Step → List ℕ
+amounts_text s = (codes " minutes " ++ decimal s.minutes) ++ (codes " fee " ++ decimal s.fee) ++ state_text s.closed ++ newline
+
 -- a step with its number
 abbrev pub step_line : ℕ → Step → List ℕ
-step_line i s = (codes "step " ++ decimal i) ++ target_text s.target ++ join_text s.join ++ (codes " minutes " ++ decimal s.minutes) ++ (codes " fee " ++ decimal s.fee) ++ state_text s.closed ++ newline
+step_line i s = (codes "step " ++ decimal i) ++ target_text s.target ++ join_text s.join ++ amounts_text s
 
 -- these steps, the first of which has the number i
 abbrev pub step_lines : ℕ → List Step → List ℕ
@@ -40,8 +44,7 @@ step_lines i [] = []
 step_lines i (s ∷ ss) = step_line i s ++ step_lines (suc i) ss
 
 abbrev pub closed_count : List Step → ℕ
-closed_count [] = 0
-closed_count (s ∷ ss) = cond s.closed 1 0 + closed_count ss
+closed_count ss = count_by (λ (s : Step). s.closed) ss
 
 -- of so many steps, so many closed
 abbrev pub count_line : ℕ → ℕ → List ℕ

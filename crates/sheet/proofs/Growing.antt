@@ -1,49 +1,44 @@
 -- One step more, put behind the others: when it is accepted, and that the properties are kept.
-use Rattle.std.proofs.Common.{◌≡◌, ℕ, ◌+◌, ◌<◌, ◌≤◌, not, ltb, leb, List, [], ◌∷◌, ◌++◌, length, take, set, is_some, Some, Ok, unwrap_or, sym, ap, ◌∙◌, subst, arith}
-use Rattle.std.proofs.lemmas.List.{length-take-le, get_or_append_left, take_more_set}
-use Rattle.std.proofs.lemmas.Bool.{cond-false, lt-leb, le-ltb}
+use Rattle.std.proofs.Common.{◌≡◌, ℕ, ◌<◌, ◌≤◌, Bool, false, not, ltb, leb, ◌==◌, List, [], ◌∷◌, ◌++◌, length, is_some, Some, None, Ok, Option, unwrap_or, sym, ap, ◌∙◌, arith}
+use Rattle.std.proofs.lemmas.List.{length_push, get_or_append_left}
+use Rattle.std.proofs.lemmas.Bool.{cond-false, eqb-false, lt-leb, le-ltb}
+use Rattle.std.specs.Option.{ok_or}
+use Rattle.steps.proofs.Clashes.{clash}
+use Rattle.steps.specs.declared.refusal.Refusal.TheVariants.{UnknownJoin}
 use Rattle.steps.proofs.Pushes.{each_push}
 use Rattle.steps.proofs.Ranges.{inside}
 use Rattle.steps.specs.declared.step.Join.{Join}
 use Rattle.steps.specs.declared.step.Join.TheVariants.{And}
 use Rattle.steps.specs.declared.step.Step.{Step}
 use Rattle.steps.specs.Limits.{max_steps, max_minutes, max_fee, outside}
-use Rattle.steps.specs.Numbers.{join_of}
-use Rattle.steps.specs.Sheet.{Sheet, blank, Rooted, Descending, Timed, Priced}
+use Rattle.steps.specs.Numbers.{join_of, JoinDecodes}
+use Rattle.steps.specs.Sheet.{Sheet, sheet_of, blank, WellFormed}
 use Rattle.sheet.specs.Calls.{open_step, after, added, add_answer, add_after}
 
-module _ (ss : List Step) (x : Step) where
-  rooted_push : 0 < length ss → Rooted ss → Rooted (ss ++ x ∷ [])
-  rooted_push h old = rw (get_or_append_left ss (x ∷ []) blank 0 h) old
+-- a well-formed sheet stays one
+pub grown : (limit : ℕ) (ss : List Step) (benches : ℕ) (x : Step) → WellFormed limit (sheet_of ss benches) → length ss < limit → x.target < length ss → (1 ≤ x.minutes) × (x.minutes ≤ max_minutes) → x.fee ≤ max_fee → WellFormed limit (sheet_of (ss ++ x ∷ []) benches)
+grown limit ss benches x old room on timed priced =
+    let size = length_push ss x in
+    record {
+      size = (omega (arith, size), omega (arith, size));
+      rooted = rw (get_or_append_left ss (x ∷ []) blank 0 old.size.0) old.rooted;
+      descending = λ i p l. each_push ss x (λ n s. 0 < n → s.target < n) (λ k q z. old.descending k z q) (λ z. on) i l p;
+      timed = each_push ss x (λ n s. (1 ≤ s.minutes) × (s.minutes ≤ max_minutes)) old.timed timed;
+      priced = each_push ss x (λ n s. s.fee ≤ max_fee) old.priced priced;
+      crewed = old.crewed;
+    }
 
-  descending_push : x.target < length ss → Descending ss → Descending (ss ++ x ∷ [])
-  descending_push h old i p l = each_push ss x (λ n s. 0 < n → s.target < n) (λ k q z. old k z q) (λ z. h) i l p
+-- a vector that is not full has room
+pub not_full : (full : Bool) (n most : ℕ) → full ≡ (n == most) → full ≡ false → n ≤ most → n < most
+not_full full n most e f h = let differ = eqb-false n most (sym e ∙ f) in omega (arith, differ, h)
 
-  timed_push : (1 ≤ x.minutes) × (x.minutes ≤ max_minutes) → Timed ss → Timed (ss ++ x ∷ [])
-  timed_push h old = each_push ss x (λ n s. (1 ≤ s.minutes) × (s.minutes ≤ max_minutes)) old h
-
-  priced_push : x.fee ≤ max_fee → Priced ss → Priced (ss ++ x ∷ [])
-  priced_push h old = each_push ss x (λ n s. s.fee ≤ max_fee) old h
-
--- the same in a table of which the first n are steps
-module _ (table : List Step) (n : ℕ) (x : Step) (room : n < length table) where
-  same : take n table ++ x ∷ [] ≡ take (n + 1) (set table n x)
-  same = sym (take_more_set table n x room)
-
-  few : length (take n table) ≡ n
-  few = length-take-le n table (omega arith)
-
-  pub rooted_more : 0 < n → Rooted (take n table) → Rooted (take (n + 1) (set table n x))
-  rooted_more h old = subst Rooted same (rooted_push (take n table) x (omega (arith, few)) old)
-
-  pub descending_more : x.target < n → Descending (take n table) → Descending (take (n + 1) (set table n x))
-  descending_more h old = subst Descending same (descending_push (take n table) x (omega (arith, few)) old)
-
-  pub timed_more : (1 ≤ x.minutes) × (x.minutes ≤ max_minutes) → Timed (take n table) → Timed (take (n + 1) (set table n x))
-  timed_more h old = subst Timed same (timed_push (take n table) x h old)
-
-  pub priced_more : x.fee ≤ max_fee → Priced (take n table) → Priced (take (n + 1) (set table n x))
-  priced_more h old = subst Priced same (priced_push (take n table) x h old)
+-- a join that its number gives
+pub decoded : (n : ℕ) (j : Join) → JoinDecodes n (Ok j) → join_of n ≡ Some j
+decoded n j h = by (join_of n) h
+  where
+    by : (o : Option Join) → Ok j ≡ ok_or o UnknownJoin → o ≡ Some j
+    by None e = clash (cc)
+    by (Some k) e = let same : j ≡ k = cc in ap Some (sym same)
 
 -- add accepts a step within the limits
 pub accepted : (s : Sheet) (target join minutes fee : ℕ) (j : Join) → length s.steps < max_steps → target < length s.steps → join_of join ≡ Some j → 1 ≤ minutes → minutes ≤ max_minutes → fee ≤ max_fee → (add_answer s target join minutes fee ≡ Ok (length s.steps)) × (add_after s target join minutes fee ≡ added s (open_step target j minutes fee))

@@ -2,7 +2,7 @@
 use Rattle.std.proofs.Common.{◌≡◌, ℕ, zero, suc, ◌+◌, ◌-◌, ◌*◌, ◌<◌, ◌≤◌, Bool, true, false, cond, ltb, List, length, take, drop, Some, None, Ok, Err, Option, Result, sym, refl, ap, ◌∙◌, subst, add-mul, mul-le-mul_left, arith}
 use Rattle.std.proofs.lemmas.List.{take-append-le, take_all}
 use Rattle.std.proofs.lemmas.Bool.{le-ltb}
-use Rattle.std.specs.Option.{option_map}
+use Rattle.std.specs.Option.{option_map, ok_or}
 use Rattle.steps.proofs.Clashes.{clash}
 use Rattle.steps.specs.declared.refusal.Refusal.{Refusal}
 use Rattle.steps.specs.declared.refusal.Refusal.TheVariants.{NoOpenWay, TableTooShort}
@@ -29,6 +29,11 @@ use Rattle.planning.specs.declared.Plan.{Plan}
 use Rattle.planning.specs.Planning.{chosen_plan, chosen_rows, or_no_rows, written}
 use Rattle.sheet.specs.Least.{Shut}
 use Rattle.sheet.specs.Planning.{plan_or_none, plan_answer, plan_rows, Planned, PlanPromise}
+
+-- where there is no plan, no way is open
+pub told_or : (o : Option Plan) (r : Result Plan Refusal) → r ≡ ok_or o NoOpenWay → told r ≡ plan_or_none o
+told_or None r e = ap told e
+told_or (Some plan) r e = ap told e
 
 -- what is at most a way's score is within the limit of each valid timetable of that way
 score_limit : (m : ℕ) (ss : List Step) (w : Set) (rows : List Row) (bound : ℕ) → 0 < m → Descending ss → Way ss w → ValidTimetable m ss w rows → bound ≤ score_of m ss w → bound ≤ (2 * m - 1) * latest rows

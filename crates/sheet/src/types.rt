@@ -1,8 +1,8 @@
 // The two types of sheet. Their calls stand in the modules below.
-ghost use Rattle.std.specs.Prelude.{◌≡◌, ◌≤◌, length, take};
 ghost use Rattle.steps.specs.Limits.{max_steps};
-ghost use Rattle.steps.specs.Sheet.{Rooted, Descending, Timed, Priced, Crewed};
+ghost use Rattle.steps.specs.Sheet.{sheet_of, WellFormed};
 
+use arrayvec::ArrayVec;
 use steps::limits::MAX_STEPS;
 use steps::step::Step;
 
@@ -13,32 +13,18 @@ mod files;
 mod scheduling;
 mod viewing;
 
-// A sheet that still takes steps. The first `count` of the table are its steps.
+// A sheet that still takes steps.
 #[derive(Drop)]
 pub struct Draft {
-    steps: [Step; MAX_STEPS],
-    count: usize,
+    steps: ArrayVec<Step, MAX_STEPS>,
     benches: u8,
-    ghost table: { length steps ≡ max_steps },
-    ghost counted: { (1 ≤ count) × (count ≤ max_steps) },
-    ghost rooted: { Rooted (take count steps) },
-    ghost descending: { Descending (take count steps) },
-    ghost timed: { Timed (take count steps) },
-    ghost priced: { Priced (take count steps) },
-    ghost crewed: { Crewed benches },
+    ghost sound: { WellFormed max_steps (sheet_of steps.items benches) },
 }
 
-// A sheet that takes no more steps.
+// A sheet that takes no more steps. What a sheet may be asked to do is told by its type, so there are two of the same shape.
 #[derive(Drop)]
 pub struct Issued {
-    steps: [Step; MAX_STEPS],
-    count: usize,
+    steps: ArrayVec<Step, MAX_STEPS>,
     benches: u8,
-    ghost table: { length steps ≡ max_steps },
-    ghost counted: { (1 ≤ count) × (count ≤ max_steps) },
-    ghost rooted: { Rooted (take count steps) },
-    ghost descending: { Descending (take count steps) },
-    ghost timed: { Timed (take count steps) },
-    ghost priced: { Priced (take count steps) },
-    ghost crewed: { Crewed benches },
+    ghost sound: { WellFormed max_steps (sheet_of steps.items benches) },
 }

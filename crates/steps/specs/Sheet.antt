@@ -1,5 +1,5 @@
 -- A sheet as its contracts see it, and the properties that every sheet keeps.
-use Rattle.std.specs.Prelude.{◌≡◌, ℕ, ◌<◌, ◌≤◌, false, List, length, take, slice_index_or}
+use Rattle.std.specs.Prelude.{◌≡◌, ℕ, ◌<◌, ◌≤◌, false, List, length, slice_index_or}
 use Rattle.steps.specs.declared.step.Join.TheVariants.{And}
 use Rattle.steps.specs.declared.step.Step.{Step}
 use Rattle.steps.specs.Limits.{max_benches, max_minutes, max_fee, no_target}
@@ -13,10 +13,6 @@ pub record Sheet : Type 0 where
 abbrev pub sheet_of : List Step → ℕ → Sheet
 sheet_of ss benches = record { steps = ss; benches = benches }
 
--- the sheet whose steps are the first so many of a table
-abbrev pub table_sheet : ℕ → List Step → ℕ → Sheet
-table_sheet count table benches = sheet_of (take count table) benches
-
 -- what stands for a step past the end
 abbrev pub blank : Step
 blank = record { target = 0; join = And; minutes = 0; fee = 0; closed = false }
@@ -24,7 +20,7 @@ blank = record { target = 0; join = And; minutes = 0; fee = 0; closed = false }
 abbrev pub step : List Step → ℕ → Step
 step ss i = slice_index_or ss i blank
 
--- The properties. The types of sheet hold them as ghost fields, for which antt wants each to be a small fact of its own.
+-- The properties.
 
 -- there is a step, and there are no more than the limit
 abbrev pub Sized : ℕ → List Step → Type 0

@@ -16,7 +16,7 @@ impl Issued {
     ) -> Result<M::Figure, Refusal>
         ensures { LeastPromise (M.Measure.meaning measure.now) (M.Measure.number measure.now) (issued_sheet self.now).steps table.old table.new result }
     {
-        if table.len() < self.count {
+        if table.len() < self.steps.len() {
             return Err(Refusal::TableTooShort);
         }
         fill(measure, self.steps(), table);

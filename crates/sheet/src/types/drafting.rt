@@ -5,7 +5,8 @@ ghost use Rattle.sheet.specs.Model.{draft_sheet, issued_sheet};
 ghost use Rattle.sheet.specs.Calls.{new_sheet, add_answer, add_after};
 
 use super::{Draft, Issued};
-use steps::limits::{MAX_FEE, MAX_MINUTES, MAX_STEPS, NO_TARGET};
+use arrayvec::ArrayVec;
+use steps::limits::{MAX_FEE, MAX_MINUTES, NO_TARGET};
 use steps::refusal::Refusal;
 use steps::step::{Join, Step};
 
@@ -14,18 +15,15 @@ impl Draft {
     pub fn new() -> Draft
         ensures { draft_sheet result ≡ new_sheet }
     {
-        let hand_over = Step {
+        let mut steps = ArrayVec::new();
+        steps.push(Step {
             target: NO_TARGET,
             join: Join::And,
             minutes: 1,
             fee: 0,
             closed: false,
-        };
-        Draft {
-            steps: [hand_over; MAX_STEPS],
-            count: 1,
-            benches: 1,
-        }
+        });
+        Draft { steps, benches: 1 }
     }
 
     // Puts an open step behind the others, and answers its number.
@@ -33,30 +31,27 @@ impl Draft {
         ensures answer { told result ≡ add_answer (draft_sheet self.old) target join minutes fee }
         ensures after { draft_sheet self.new ≡ add_after (draft_sheet self.old) target join minutes fee }
     {
-        let number = self.count;
-        if number >= MAX_STEPS {
+        let number = self.steps.len();
+        if self.steps.is_full() {
             return Err(Refusal::SheetFull);
         }
         if target as usize >= number {
             return Err(Refusal::NoSuchTarget);
         }
-        let Some(join) = Join::from_number(join) else {
-            return Err(Refusal::UnknownJoin);
-        };
+        let join = Join::try_from(join)?;
         if minutes < 1 || minutes > MAX_MINUTES {
             return Err(Refusal::MinutesOutOfRange);
         }
         if fee > MAX_FEE {
             return Err(Refusal::FeeTooHigh);
         }
-        self.steps[number] = Step {
+        self.steps.push(Step {
             target,
             join,
             minutes,
             fee,
             closed: false,
-        };
-        self.count = number + 1;
+        });
         Ok(number as u16)
     }
 
@@ -64,15 +59,7 @@ impl Draft {
     pub fn issue(self) -> Issued
         ensures { issued_sheet result ≡ draft_sheet self }
     {
-        let Draft {
-            steps,
-            count,
-            benches,
-        } = self;
-        Issued {
-            steps,
-            count,
-            benches,
-        }
+        let Draft { steps, benches } = self;
+        Issued { steps, benches }
     }
 }

@@ -20,13 +20,8 @@ impl Issued {
         ensures after { issued_sheet self.new ≡ read_after (decode max_steps file.now) (issued_sheet self.old) }
         ensures faithful { Faithful result (issued_sheet self.new) file.now }
     {
-        let Contents {
-            benches,
-            count,
-            steps,
-        } = load(file)?;
+        let Contents { benches, steps } = load(file)?;
         self.steps = steps;
-        self.count = count;
         self.benches = benches;
         Ok(())
     }

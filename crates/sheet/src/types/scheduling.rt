@@ -14,12 +14,9 @@ impl Issued {
     pub fn plan<P: Policy>(&self, policy: &P, rows: &mut [Row]) -> Result<Plan, Refusal>
         ensures { PlanPromise (P.Policy.placing policy.now) (issued_sheet self.now) rows.old rows.new result }
     {
-        if rows.len() < self.count {
+        if rows.len() < self.steps.len() {
             return Err(Refusal::TableTooShort);
         }
-        match make_plan(self.steps(), self.benches, policy, rows) {
-            Some(plan) => Ok(plan),
-            None => Err(Refusal::NoOpenWay),
-        }
+        make_plan(self.steps(), self.benches, policy, rows).ok_or(Refusal::NoOpenWay)
     }
 }

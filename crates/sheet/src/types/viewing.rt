@@ -19,6 +19,6 @@ impl Issued {
         ensures value { result.now ≡ (issued_sheet self.now).steps }
         ensures sound { WellFormed max_steps (issued_sheet self.now) }
     {
-        &self.steps[0..self.count]
+        self.steps.as_slice()
     }
 }

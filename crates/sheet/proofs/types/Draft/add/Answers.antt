@@ -1,31 +1,24 @@
--- The new step is within the limits, and the sheet's properties are kept.
-use Rattle.std.proofs.Common.{◌<◌, length, Ok, sym, ap, ◌∙◌, arith, rules}
-use Rattle.std.proofs.lemmas.List.{take_more_set, length-set, length-take-le}
-use Rattle.steps.specs.Sheet.{sheet_of}
+-- The new step is within the limits, and the sheet stays well-formed.
+use Rattle.std.proofs.Common.{◌<◌, length, Ok, sym, ap, ◌∙◌, subst, arith}
+use Rattle.steps.specs.Limits.{max_steps}
+use Rattle.steps.specs.Sheet.{WellFormed, sheet_of}
 use Rattle.sheet.specs.Model.{draft_sheet}
-use Rattle.sheet.proofs.Growing.{accepted, rooted_more, descending_more, timed_more, priced_more}
+use Rattle.sheet.proofs.Growing.{accepted, grown, decoded, not_full}
 use Rattle.sheet.proofs.types.Draft.add.Goals as goal
 
 pub invariant_of-self : goal.invariant_of-self
 invariant_of-self c =
     let d = c.args.self.now in
-    let room : d.count < length d.steps = omega arith in
-    record {
-      table = search (rules, length-set);
-      counted = (omega arith, omega arith);
-      rooted = rooted_more _ _ _ room (omega (arith, d.counted)) d.rooted;
-      descending = descending_more _ _ _ room c.if-target-number.false d.descending;
-      timed = timed_more _ _ _ room (search rules) d.timed;
-      priced = priced_more _ _ _ room (search rules) d.priced;
-      crewed = d.crewed;
-    }
+    let room : length d.steps.items < max_steps = not_full _ _ max_steps c.is_full.ensures.value c.if-is_full.false c.is_full.ensures.fits in
+    let more = grown max_steps d.steps.items d.benches _ d.sound room (omega (arith, c.len-number.ensures.value, c.if-target-number.false)) (c.if-minutes-lt1.false, c.if-minutes-gt-MAX_MINUTES.false) c.if-fee-gt-MAX_FEE.false in
+    record { sound = subst (λ ss. WellFormed max_steps (sheet_of ss d.benches)) (sym c.push.ensures.items) more }
 
 pub returns : goal.returns
 returns c =
     let d = c.args.self.now in
-    let few = length-take-le d.count d.steps (omega arith) in
-    let a = accepted (draft_sheet d) c.args.target c.args.join c.args.minutes c.args.fee c.in-Some.join (omega (arith, few)) (omega (arith, few, c.if-target-number.false)) (sym c.from_number.ensures ∙ c.in-Some.is) c.if-minutes-lt1.false c.if-minutes-gt-MAX_MINUTES.false c.if-fee-gt-MAX_FEE.false in
+    let n = c.len-number.ensures.value in
+    let a = accepted (draft_sheet d) c.args.target c.args.join c.args.minutes c.args.fee c.in_ok-join.join (not_full _ _ max_steps c.is_full.ensures.value c.if-is_full.false c.is_full.ensures.fits) (omega (arith, n, c.if-target-number.false)) (decoded c.args.join c.in_ok-join.join c.in_ok-join.ensures) c.if-minutes-lt1.false c.if-minutes-gt-MAX_MINUTES.false c.if-fee-gt-MAX_FEE.false in
     record {
-      answer = ap Ok (sym few) ∙ sym a.0;
-      after = ap (λ ss. sheet_of ss d.benches) (take_more_set d.steps d.count _ (omega arith)) ∙ sym a.1;
+      answer = ap Ok n ∙ sym a.0;
+      after = ap (λ ss. sheet_of ss d.benches) c.push.ensures.items ∙ sym a.1;
     }

@@ -1,21 +1,19 @@
 -- The table is filled where it is long enough, and its first entry is the answer.
-use Rattle.std.proofs.Common.{◌<◌, ◌≤◌, ltb, length, take, sym, refl, ap, ◌∙◌, subst, arith}
-use Rattle.std.proofs.lemmas.List.{length-take-le}
+use Rattle.std.proofs.Common.{◌<◌, ◌≤◌, ltb, length, sym, refl, ap, ◌∙◌, subst, arith}
 use Rattle.std.proofs.lemmas.Bool.{cond-true, cond-false, lt-ltb, le-ltb}
 use Rattle.least.specs.Entries.{Filled}
 use Rattle.sheet.specs.Least.{reported}
 use Rattle.sheet.proofs.Promises.{promised, first_found, first_none}
 use Rattle.sheet.proofs.types.Issued.least.Goals as goal
 
-pub returns-then-table-self : goal.returns-then-table-self
-returns-then-table-self g c =
+pub returns-then-table-len : goal.returns-then-table-len
+returns-then-table-len g c =
     let d = c.args.self.now in
     let m = g.M.Measure.meaning c.args.measure.now in
     let number = g.M.Measure.number c.args.measure.now in
-    let ss = take d.count d.steps in
-    let all = length-take-le d.count d.steps (omega (arith, d.table, d.counted)) in
-    let short : length c.args.table.now < length ss = omega (arith, all, c.if-table-self.true) in
-    promised _ m number ss c.args.table.now c.args.table.now d.descending (omega (arith, all, d.counted)) _
+    let ss = d.steps.items in
+    let short : length c.args.table.now < length ss = omega (arith, c.len.ensures.value, c.if-table-len.true) in
+    promised _ m number ss c.args.table.now c.args.table.now d.sound.descending (d.sound.size.0) _
     (sym (cond-true (ltb (length c.args.table.now) (length ss)) _ _ (lt-ltb _ _ short)))
     (λ _. refl)
     (λ room. absurd (omega (arith, short, room)))
@@ -25,15 +23,14 @@ returns-then-first g c =
     let d = c.args.self.now in
     let m = g.M.Measure.meaning c.args.measure.now in
     let number = g.M.Measure.number c.args.measure.now in
-    let ss = take d.count d.steps in
+    let ss = d.steps.items in
     let before = c.args.table.now in
     let after = c.fill.new.table in
-    let all = length-take-le d.count d.steps (omega (arith, d.table, d.counted)) in
-    let some : 0 < length ss = omega (arith, all, d.counted) in
-    let room : length ss ≤ length before = omega (arith, all, c.if-table-self.false) in
+    let some : 0 < length ss = d.sound.size.0 in
+    let room : length ss ≤ length before = omega (arith, c.len.ensures.value, c.if-table-len.false) in
     let filled = subst (λ x. Filled m number x before after) c.steps.ensures.value c.fill.ensures in
     let found = first_found _ m number ss before after c.index-table-0.result some (omega (arith, room, c.fill.auto.table)) c.index-table-0.is filled c.if-first.true in
-    promised _ m number ss before after d.descending some _
+    promised _ m number ss before after d.sound.descending some _
     (ap reported (sym found) ∙ sym (cond-false (ltb (length before) (length ss)) _ _ (le-ltb _ _ room)))
     (λ short. absurd (omega (arith, short, room)))
     (λ _. filled)
@@ -43,15 +40,14 @@ returns-else-first g c =
     let d = c.args.self.now in
     let m = g.M.Measure.meaning c.args.measure.now in
     let number = g.M.Measure.number c.args.measure.now in
-    let ss = take d.count d.steps in
+    let ss = d.steps.items in
     let before = c.args.table.now in
     let after = c.fill.new.table in
-    let all = length-take-le d.count d.steps (omega (arith, d.table, d.counted)) in
-    let some : 0 < length ss = omega (arith, all, d.counted) in
-    let room : length ss ≤ length before = omega (arith, all, c.if-table-self.false) in
+    let some : 0 < length ss = d.sound.size.0 in
+    let room : length ss ≤ length before = omega (arith, c.len.ensures.value, c.if-table-len.false) in
     let filled = subst (λ x. Filled m number x before after) c.steps.ensures.value c.fill.ensures in
     let missing = first_none _ m number ss before after c.index-table-0.result some (omega (arith, room, c.fill.auto.table)) c.index-table-0.is filled c.if-first.false in
-    promised _ m number ss before after d.descending some _
+    promised _ m number ss before after d.sound.descending some _
     (ap reported (sym missing) ∙ sym (cond-false (ltb (length before) (length ss)) _ _ (le-ltb _ _ room)))
     (λ short. absurd (omega (arith, short, room)))
     (λ _. filled)

@@ -1,6 +1,5 @@
 -- A file that decodes gives a sheet with all the properties, and its encoding is the file without its notes.
-use Rattle.std.proofs.Common.{sym, ap, arith}
-use Rattle.std.proofs.lemmas.List.{length-take-le}
+use Rattle.std.proofs.Common.{sym, ap}
 use Rattle.steps.specs.Limits.{max_steps}
 use Rattle.job_format.proofs.Decoded.{decoded_well_formed, decoded_back}
 use Rattle.jobfile.specs.Loading.{sheet_in}
@@ -12,16 +11,7 @@ pub invariant_of-self : goal.invariant_of-self
 invariant_of-self c =
     let x = c.in_ok-benches.field-0 in
     let w = decoded_well_formed max_steps c.args.file.now (sheet_in x) (λ i. (c.type_inv.file i).fits) (sym c.in_ok-benches.ensures) in
-    let few = length-take-le x.count x.steps (omega (arith, x.size, x.counted)) in
-    record {
-      table = x.size;
-      counted = (omega (arith, few, w.size.0), x.counted);
-      rooted = w.rooted;
-      descending = w.descending;
-      timed = w.timed;
-      priced = w.priced;
-      crewed = w.crewed;
-    }
+    record { sound = w }
 
 pub returns : goal.returns
 returns c =
