@@ -11,7 +11,7 @@ mod reading;
 
 pub(crate) use fields::step_in;
 pub(crate) use judging::{EDITION, HEAD_BODY, STEP_BODY};
-pub(crate) use kind::Kind;
+pub use kind::Kind;
 
 // The longest job file, in bytes.
 pub const MAX_FILE: usize = 65_536;

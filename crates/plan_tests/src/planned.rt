@@ -28,10 +28,7 @@ fn check_rows<P: Policy>(
     expected: &[(u16, u8, u32, u32)],
 ) -> Result<(), Fail> {
     let mut rows = [BLANK; 13];
-    let Ok(plan) = sheet.plan(policy, &mut rows) else {
-        assert!(rt; false);
-        return Ok(());
-    };
+    let plan = sheet.plan(policy, &mut rows).ok().ok_or("no plan")?;
     assert_eq!(rt; plan.rows, expected.len());
     for (i, row) in rows.iter().enumerate() {
         match expected.get(i) {
@@ -61,7 +58,7 @@ fn simulated(rt: HostRuntime) -> Result<(), Fail> {
 }
 
 // The rows are those of the steps whose bit is 1, one for each.
-fn check_members(rt: &impl Abort, rows: &[Row], way: u32) -> Result<(), Fail> {
+fn check_members(rt: &impl Abort, rows: &[Row], way: u32) {
     let mut found = 0u32;
     for row in rows {
         assert!(rt; row.step < 32);
@@ -70,41 +67,29 @@ fn check_members(rt: &impl Abort, rows: &[Row], way: u32) -> Result<(), Fail> {
         found |= bit;
     }
     assert_eq!(rt; found, way);
-    Ok(())
 }
 
 // The plan for a crew has this way and score, or there is none.
-fn check_plan(
-    rt: &impl Abort,
-    sheet: &mut Issued,
-    crew: u8,
-    expected: Option<(u32, u32)>,
-) -> Result<(), Fail> {
+fn check_plan(rt: &impl Abort, sheet: &mut Issued, crew: u8, expected: Option<(u32, u32)>) {
     assert!(rt; sheet.crew(crew).is_ok());
     let mut rows = [BLANK; 16];
-    match sheet.plan(&LongestTail, &mut rows) {
-        Ok(plan) => {
-            let (way, score) = expected.ok_or("a plan where there is none")?;
-            assert_eq!(rt; plan.score, score);
-            assert!(rt; plan.rows <= 16);
-            check_members(rt, &rows[..plan.rows], way)
-        }
-        Err(refusal) => {
-            assert!(rt; expected.is_none());
-            assert_eq!(rt; refusal.number(), 31);
-            Ok(())
-        }
+    let plan = sheet.plan(&LongestTail, &mut rows).map_err(u8::from);
+    assert_eq!(rt;
+        plan.map(|plan| plan.score),
+        expected.map(|(_, score)| score).ok_or(31)
+    );
+    if let (Ok(plan), Some((way, _))) = (plan, expected) {
+        assert!(rt; plan.rows <= 16);
+        check_members(rt, &rows[..plan.rows], way);
     }
 }
 
 #[test]
-fn enumerated(rt: HostRuntime) -> Result<(), Fail> {
+fn enumerated(rt: HostRuntime) {
     for (file, plans) in PLANS {
         let mut sheet = sheet_of(&rt, file);
-        check_plan(&rt, &mut sheet, 1, plans[0])?;
-        check_plan(&rt, &mut sheet, 2, plans[1])?;
-        check_plan(&rt, &mut sheet, 3, plans[2])?;
-        check_plan(&rt, &mut sheet, 16, plans[3])?;
+        for (crew, expected) in [1, 2, 3, 16].into_iter().zip(plans) {
+            check_plan(&rt, &mut sheet, crew, expected);
+        }
     }
-    Ok(())
 }

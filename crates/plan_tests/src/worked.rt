@@ -3,17 +3,19 @@ use policies::{LongestTail, SheetOrder};
 use sheet::{Draft, Issued};
 use steps::row::Row;
 
-// The minutes of step 2, and whether steps 3 and 5 are closed; the crew; then score, and finish by longest tail and by sheet
-// order; or the number of the refusal, and twice 0.
-const CASES: [(u16, u8, u8, u8, u32, u32, u32); 8] = [
-    (4, 0, 0, 1, 13, 13, 13),
-    (4, 0, 0, 2, 21, 9, 10),
-    (4, 0, 0, 3, 28, 7, 7),
-    (4, 1, 0, 1, 14, 14, 14),
-    (4, 1, 1, 1, 31, 0, 0),
-    (4, 1, 1, 16, 31, 0, 0),
-    (20, 0, 0, 2, 51, 22, 22),
-    (20, 1, 0, 2, 52, 22, 22),
+// The score of a sheet, and its finish by longest tail and by sheet order; or the number of the refusal.
+type Told = Result<(u32, u32, u32), u8>;
+
+// The minutes of step 2, and whether steps 3 and 5 are closed; the crew; then what is told.
+const CASES: [(u16, bool, bool, u8, Told); 8] = [
+    (4, false, false, 1, Ok((13, 13, 13))),
+    (4, false, false, 2, Ok((21, 9, 10))),
+    (4, false, false, 3, Ok((28, 7, 7))),
+    (4, true, false, 1, Ok((14, 14, 14))),
+    (4, true, true, 1, Err(31)),
+    (4, true, true, 16, Err(31)),
+    (20, false, false, 2, Ok((51, 22, 22))),
+    (20, true, false, 2, Ok((52, 22, 22))),
 ];
 
 const NO_ROW: Row = Row {
@@ -24,35 +26,29 @@ const NO_ROW: Row = Row {
 };
 
 // The worked sheet's file, with the minutes of step 2 and the closed marks of steps 3 and 5.
-fn file(minutes: u16, third: u8, fifth: u8) -> [u8; 108] {
+fn file(minutes: u16, third: bool, fifth: bool) -> [u8; 108] {
     let mut file =
         *b"\x02\x00\x01\x00\x01\x02\x0a\x00\x02\x00\xff\xff\x01\x00\x02\x00\x00\x00\x00\x00\x0a\x00\x02\x00\x00\x00\x02\x00\x01\x00\x00\x00\x00\x00\x0a\x00\x02\x00\x00\x00\x01\x00\x04\x00\x00\x00\x00\x00\x0a\x00\x02\x00\x01\x00\x01\x00\x06\x00\x00\x00\x00\x00\x0a\x00\x02\x00\x01\x00\x01\x00\x01\x00\x00\x00\x00\x00\x0a\x00\x02\x00\x04\x00\x01\x00\x03\x00\x00\x00\x00\x00\x0a\x00\x02\x00\x04\x00\x01\x00\x03\x00\x00\x00\x00\x00\x00\x00\x03\x00";
     file[42] = (minutes % 256) as u8;
-    file[55] = third;
-    file[83] = fifth;
+    file[55] = third.into();
+    file[83] = fifth.into();
     file
 }
 
-// Score and finish by longest tail and by sheet order, or the number of the refusal.
-fn told(sheet: &Issued) -> (u32, u32, u32) {
+fn told(sheet: &Issued) -> Told {
     let mut rows = [NO_ROW; 7];
-    match (
-        sheet.plan(&LongestTail, &mut rows),
-        sheet.plan(&SheetOrder, &mut rows),
-    ) {
-        (Ok(longest), Ok(in_order)) => (longest.score, longest.finish, in_order.finish),
-        (Err(refusal), _) => (u32::from(refusal.number()), 0, 0),
-        (_, Err(refusal)) => (u32::from(refusal.number()), 0, 0),
-    }
+    let longest = sheet.plan(&LongestTail, &mut rows).map_err(u8::from)?;
+    let in_order = sheet.plan(&SheetOrder, &mut rows).map_err(u8::from)?;
+    Ok((longest.score, longest.finish, in_order.finish))
 }
 
 #[test]
 fn worked_plans(rt: HostRuntime) {
-    for (minutes, third, fifth, crew, score, longest, in_order) in CASES {
+    for (minutes, third, fifth, crew, expected) in CASES {
         let mut sheet = Draft::new().issue();
         assert!(rt; sheet.read(&file(minutes, third, fifth)).is_ok());
         assert!(rt; sheet.crew(crew).is_ok());
-        assert_eq!(rt; told(&sheet), (score, longest, in_order));
+        assert_eq!(rt; told(&sheet), expected);
     }
 }
 
@@ -60,12 +56,10 @@ fn worked_plans(rt: HostRuntime) {
 #[test]
 fn too_few_rows(rt: HostRuntime) {
     let mut sheet = Draft::new().issue();
-    assert!(rt; sheet.read(&file(4, 0, 0)).is_ok());
+    assert!(rt; sheet.read(&file(4, false, false)).is_ok());
     let mut rows = [NO_ROW; 6];
-    match sheet.plan(&LongestTail, &mut rows) {
-        Ok(_) => assert!(rt; false),
-        Err(refusal) => assert_eq!(rt; refusal.number(), 41),
-    }
+    let plan = sheet.plan(&LongestTail, &mut rows).map_err(u8::from);
+    assert_eq!(rt; plan.map(|plan| plan.score), Err(41));
     for row in rows {
         assert!(rt; row == NO_ROW);
     }
@@ -75,8 +69,8 @@ fn too_few_rows(rt: HostRuntime) {
 fn small_drafts(rt: HostRuntime) {
     let mut alone = Draft::new().issue();
     assert!(rt; alone.crew(16).is_ok());
-    assert_eq!(rt; told(&alone), (16, 1, 1));
+    assert_eq!(rt; told(&alone), Ok((16, 1, 1)));
     let mut draft = Draft::new();
     assert!(rt; draft.add(0, 2, 5, 0).is_ok());
-    assert_eq!(rt; told(&draft.issue()), (31, 0, 0));
+    assert_eq!(rt; told(&draft.issue()), Err(31));
 }

@@ -16,21 +16,19 @@ fn ready() -> [Ready; 3] {
     ]
 }
 
-fn told<C: Changeable>(policy: &mut C, step: u16, value: u16) -> u8 {
-    match policy.set(step, value) {
-        Ok(()) => 0,
-        Err(refusal) => refusal.number(),
-    }
-}
-
-// The number that each step is refused by, 0 where it is not.
+// The steps for which a value may be set, and the number by which others are refused.
 #[test]
 fn refused(rt: HostRuntime) {
     let mut list = CounterList::new();
     let mut layer = RushLayer::new(list);
-    for (step, number) in [(0, 0), (255, 0), (256, 23), (65_535, 23)] {
-        assert_eq!(rt; told(&mut list, step, 1), number);
-        assert_eq!(rt; told(&mut layer, step, 1), number);
+    for (step, expected) in [
+        (0, Ok(())),
+        (255, Ok(())),
+        (256, Err(23)),
+        (65_535, Err(23)),
+    ] {
+        assert_eq!(rt; list.set(step, 1).map_err(u8::from), expected);
+        assert_eq!(rt; layer.set(step, 1).map_err(u8::from), expected);
     }
 }
 

@@ -7,61 +7,61 @@ use measures::{Chain, Fees, Measure, Minutes};
 use sheet::{Draft, Issued};
 use std::test::Fail;
 
-// Bytes of the worked file that are replaced, as in `reading`; then its least minutes, chain and fees, or 0 and the number of
-// the refusal in the place of the first.
-const SHEETS: [(usize, usize, &[u8], u32, u32, u32, u8); 6] = [
-    (0, 0, &[], 13, 7, 0, 0),
+// Bytes of the worked file that are replaced, as in `reading`; then its least minutes, chain and fees, or the number of the
+// refusal.
+const SHEETS: [(usize, usize, &[u8], Result<(u32, u32, u32), u8>); 6] = [
+    (0, 0, &[], Ok((13, 7, 0))),
     // step 3 closed
-    (55, 56, &[1], 14, 7, 0, 0),
+    (55, 56, &[1], Ok((14, 7, 0))),
     // step 5 closed
-    (83, 84, &[1], 13, 9, 0, 0),
+    (83, 84, &[1], Ok((13, 9, 0))),
     // step 0 closed
-    (13, 14, &[1], 0, 0, 0, 31),
+    (13, 14, &[1], Err(31)),
     // fees of 9 cents for step 3 and of 2 for step 5
     (
         58,
         87,
         b"\x09\x00\x00\x00\x0a\x00\x02\x00\x01\x00\x01\x00\x01\x00\x00\x00\x00\x00\x0a\x00\x02\x00\x04\x00\x01\x00\x03\x00\x02",
-        13,
-        7,
-        2,
-        0,
+        Ok((13, 7, 2)),
     ),
     // step 1 an OR step without feeders: 3 and 4 lead into 0
     (
         52,
         67,
         b"\x00\x00\x01\x00\x06\x00\x00\x00\x00\x00\x0a\x00\x02\x00\x00",
-        0,
-        0,
-        0,
-        31,
+        Err(31),
     ),
 ];
 
-fn told<M: Measure<Figure = u32>>(sheet: &Issued, measure: &M) -> (u32, u8) {
+// The least figure of a sheet, or the number of the refusal.
+fn least<M: Measure<Figure = u32>>(sheet: &Issued, measure: &M) -> Result<u32, u8> {
     let mut table = [Entry {
         found: true,
         figure: 77u32,
     }; 256];
-    match sheet.least(measure, &mut table) {
-        Ok(figure) => (figure, 0),
-        Err(refusal) => (0, refusal.number()),
-    }
+    sheet.least(measure, &mut table).map_err(u8::from)
+}
+
+fn counter_figures(sheet: &Issued) -> Result<(u32, u32, u32), u8> {
+    Ok((
+        least(sheet, &Minutes)?,
+        least(sheet, &Chain)?,
+        least(sheet, &Fees)?,
+    ))
 }
 
 #[test]
 fn worked_figures(rt: HostRuntime) -> Result<(), Fail> {
-    for (from, to, new, minutes, chain, fees, number) in SHEETS {
+    for (from, to, new, expected) in SHEETS {
         let mut sheet = Draft::new().issue();
         assert!(rt;
             sheet
                 .read(replaced(rt.alloc(), from, to, new)?.as_slice())
                 .is_ok()
         );
-        assert_eq!(rt; told(&sheet, &Minutes), (minutes, number));
-        assert_eq!(rt; told(&sheet, &Chain), (chain, number));
-        assert_eq!(rt; told(&sheet, &Fees), (fees, number));
+        assert_eq!(rt; counter_figures(&sheet), expected);
+        assert_eq!(rt; least(&sheet, &Chain), expected.map(|figures| figures.1));
+        assert_eq!(rt; least(&sheet, &Fees), expected.map(|figures| figures.2));
     }
     Ok(())
 }
@@ -102,15 +102,12 @@ fn enumerated(rt: HostRuntime) {
     for (i, (file, expected)) in sheets::SHEETS.iter().enumerate() {
         let mut sheet = Draft::new().issue();
         assert!(rt; sheet.read(file).is_ok());
-        let (minutes, number) = told(&sheet, &Minutes);
-        let (chain, _) = told(&sheet, &Chain);
-        let (fees, _) = told(&sheet, &Fees);
-        let (skewed, _) = told(&sheet, &Skewed);
-        let figures = if number == 0 {
-            Some((minutes, chain, fees, skewed))
-        } else {
-            None
-        };
+        let figures = least(&sheet, &Skewed)
+            .and_then(|skewed| {
+                let (minutes, chain, fees) = counter_figures(&sheet)?;
+                Ok((minutes, chain, fees, skewed))
+            })
+            .ok();
         assert_eq!(rt; figures, *expected, "sheet {i}");
     }
 }

@@ -46,11 +46,7 @@ fn texts(rt: HostRuntime) -> Result<(), Fail> {
 fn short_buffers(rt: HostRuntime) -> Result<(), Fail> {
     for size in [0, 8_192, LISTING_BYTES - 1] {
         let mut buffer = vec![in rt.alloc(); 0xaau8; size]?;
-        let number = match list_job(&FILE, &mut buffer) {
-            Ok(_) => 0,
-            Err(refusal) => refusal.number(),
-        };
-        assert_eq!(rt; number, 41);
+        assert_eq!(rt; list_job(&FILE, &mut buffer).map_err(u8::from), Err(41));
         for byte in buffer.as_slice() {
             assert_eq!(rt; *byte, 0xaa);
         }

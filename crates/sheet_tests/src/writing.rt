@@ -3,7 +3,6 @@ use crate::worked::{FILE, NOTE, PLACES, replaced, with_256_steps, with_notes};
 use sheet::Draft;
 use std::process::Abort;
 use std::test::Fail;
-use steps::refusal::Refusal;
 
 // A new draft, issued: one bench, step 0 alone.
 const NEW: [u8; 24] =
@@ -20,19 +19,11 @@ const OTHERS: [(usize, &[u8]); 7] = [
     (97, &[1]),
 ];
 
-// The refusal's number and 0, or 0 and the answer.
-fn told(answer: Result<usize, Refusal>) -> (u8, usize) {
-    match answer {
-        Ok(size) => (0, size),
-        Err(refusal) => (refusal.number(), 0),
-    }
-}
-
-// Reads the file and writes the sheet to the buffer.
-fn rewritten(rt: &impl Abort, file: &[u8], buffer: &mut [u8]) -> (u8, usize) {
+// Reads the file and writes the sheet to the buffer; answers the bytes written, or the refusal's number.
+fn rewritten(rt: &impl Abort, file: &[u8], buffer: &mut [u8]) -> Result<usize, u8> {
     let mut sheet = Draft::new().issue();
     assert!(rt; sheet.read(file).is_ok());
-    told(sheet.write(buffer))
+    sheet.write(buffer).map_err(u8::from)
 }
 
 // Only the front of the buffer is written to, and nothing at all where it is too short.
@@ -42,8 +33,7 @@ fn buffers(rt: HostRuntime) {
         let mut buffer = [0x99u8; 120];
         let answer = rewritten(&rt, &FILE, &mut buffer[0..length]);
         let size = if length < 108 { 0 } else { 108 };
-        let refusal = if length < 108 { 59 } else { 0 };
-        assert_eq!(rt; answer, (refusal, size));
+        assert_eq!(rt; answer, if length < 108 { Err(59) } else { Ok(108) });
         for (at, byte) in buffer.iter().enumerate() {
             let expected = if at < size {
                 FILE.get(at).copied()
@@ -57,7 +47,7 @@ fn buffers(rt: HostRuntime) {
 
 // Reads `file` and writes `expected`, which has as many bytes as the buffer.
 fn becomes(rt: &impl Abort, file: &[u8], expected: &[u8], buffer: &mut [u8]) {
-    assert_eq!(rt; rewritten(rt, file, buffer), (0, expected.len()));
+    assert_eq!(rt; rewritten(rt, file, buffer), Ok(expected.len()));
     assert!(rt; &buffer[0..buffer.len()] == expected, "{file:?}");
 }
 
@@ -89,13 +79,13 @@ fn without_notes(rt: HostRuntime) -> Result<(), Fail> {
 fn new_draft(rt: HostRuntime) {
     let mut buffer = [0u8; 24];
     let sheet = Draft::new().issue();
-    assert_eq!(rt; told(sheet.write(&mut buffer[0..23])), (59, 0));
-    assert_eq!(rt; told(sheet.write(&mut buffer)), (0, 24));
+    assert_eq!(rt; sheet.write(&mut buffer[0..23]).map_err(u8::from), Err(59));
+    assert_eq!(rt; sheet.write(&mut buffer).map_err(u8::from), Ok(24));
     assert!(rt; buffer == NEW);
     let mut other = Draft::new().issue();
     assert!(rt; other.read(&FILE).is_ok() && other.read(&NEW).is_ok());
     assert_eq!(rt; (other.benches(), other.steps().len()), (1, 1));
     let mut again = [0u8; 24];
-    assert_eq!(rt; told(other.write(&mut again)), (0, 24));
+    assert_eq!(rt; other.write(&mut again).map_err(u8::from), Ok(24));
     assert!(rt; again == NEW);
 }

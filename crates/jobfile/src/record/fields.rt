@@ -2,10 +2,11 @@
 ghost use Rattle.std.specs.Prelude.{◌≡◌, ◌≤◌, length};
 ghost use Rattle.std.specs.Option.{option_map};
 ghost use Rattle.job_format.specs.Layout.{step_in};
-ghost use Rattle.jobfile.specs.Reading.{bytes_of, head_of, step_of, note_of};
+ghost use Rattle.jobfile.specs.Kinds.{kind_number};
+ghost use Rattle.jobfile.specs.Reading.{bytes_of, kind_of, head_of, step_of, note_of};
 
 use super::judging::{long, word};
-use super::{HeadFields, Record};
+use super::{HeadFields, Kind, Record};
 use steps::step::{Join, Step};
 
 // The step of a step record's bytes.
@@ -23,6 +24,17 @@ pub(crate) fn step_in(bytes: &[u8]) -> Step
 }
 
 impl<'a> Record<'a> {
+    pub fn kind(&self) -> Kind
+        ensures { kind_number result ≡ kind_of self.now }
+    {
+        match self {
+            Record::Head(_) => Kind::Head,
+            Record::Step(_) => Kind::Step,
+            Record::Note(_) => Kind::Note,
+            Record::End(_) => Kind::End,
+        }
+    }
+
     // Header and body, as they lie in the file.
     pub fn bytes(&self) -> &'a [u8]
         ensures { result.now ≡ bytes_of self.now }

@@ -5,7 +5,7 @@ use steps::refusal::Refusal;
 
 // Each with the number that stands for it in a record.
 #[derive(Clone, Copy, PartialEq, Eq, Debug)]
-pub(crate) enum Kind {
+pub enum Kind {
     Head = 1,
     Step = 2,
     End = 3,
