@@ -1,5 +1,5 @@
 -- What the last state gives of the timetable.
-use Rattle.std.proofs.Common.{◌≡◌, ℕ, ◌+◌, ◌-◌, ◌*◌, ◌<◌, ◌≤◌, ◌&&◌, ltb, leb, List, [], reverse, length, get_or, take, drop, replicate, sym, ap, ◌∙◌, subst}
+use Rattle.std.proofs.Common.{◌≡◌, ℕ, ◌+◌, ◌-◌, ◌*◌, ◌<◌, ◌≤◌, List, [], reverse, length, take, drop, replicate, None, Option, is_some, unwrap_or, sym, ap, ◌∙◌, subst}
 use mathlib.Core.List.{reverse-reverse}
 use Rattle.std.proofs.lemmas.List.{length-take-le}
 use Rattle.steps.specs.declared.row.Row.{Row}
@@ -15,22 +15,22 @@ use Rattle.schedules.specs.Timetables.{end_of, ValidTimetable}
 use Rattle.schedules.proofs.RuleMet.{dispatch_meets_rule}
 use Rattle.schedules.proofs.Runs.{dispatch_valid, dispatch_bound}
 use Rattle.dispatch.specs.Promise.{Dispatches}
-use Rattle.dispatch.specs.Tracking.{Tracks}
+use Rattle.dispatch.specs.Tracking.{end_in, passed, Tracks}
 
 -- before anything begins
-pub tracks_none : (n : ℕ) → Tracks [] (replicate n 0)
+pub tracks_none : (n : ℕ) → Tracks [] (replicate n None)
 tracks_none n = record {
-  end_as = λ i. sym (repeated n i 0);
-  begun_as = λ i. sym (ap (ltb 0) (repeated n i 0));
-  ended_as = λ t i. sym (ap (λ e. ltb 0 e && leb e t) (repeated n i 0));
+  end_as = λ i. sym (ap (λ o. unwrap_or o 0) (repeated n i None));
+  begun_as = λ i. sym (ap is_some (repeated n i None));
+  ended_as = λ t i. sym (ap (passed t) (repeated n i None));
 }
 
 module _ (benches : ℕ) (ss : List Step) (w : Set) (p : Placing) (some : 0 < benches) (low : Descending ss) (way : Way ss w) where
-  pub promised : (before after : List Row) (time count : ℕ) (ends : List ℕ) → moment time (reverse (take count after)) ≡ final benches ss p w → Tracks (take count after) ends → count ≤ length after → drop count after ≡ drop count before →
-      Dispatches benches ss w p before after (record { finish = get_or ends 0 0; rows = count })
+  pub promised : (before after : List Row) (time count : ℕ) (ends : List (Option ℕ)) → moment time (reverse (take count after)) ≡ final benches ss p w → Tracks (take count after) ends → count ≤ length after → drop count after ≡ drop count before →
+      Dispatches benches ss w p before after (record { finish = unwrap_or (end_in ends 0) 0; rows = count })
   promised before after time count ends over tracks few kept =
       let front : take count after ≡ timetable benches ss p w = sym (reverse-reverse (take count after)) ∙ ap (λ st. reverse st.rows) over in
-      let last : get_or ends 0 0 ≡ finish benches ss p w = sym (tracks.end_as 0) ∙ ap (end_of 0) front in
+      let last : unwrap_or (end_in ends 0) 0 ≡ finish benches ss p w = sym (tracks.end_as 0) ∙ ap (end_of 0) front in
       record {
         rows = front;
         count = sym (length-take-le count after few) ∙ ap length front;

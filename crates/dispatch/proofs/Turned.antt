@@ -48,6 +48,11 @@ entry_minutes sheet test tails j (s ∷ ss) e k h =
     go true zero h f = ap (λ x. x.minutes) (sym (uncons sheet j s ss e).1)
     go true (suc k) h f = f k (omega arith)
 
+-- nothing begins without a bench
+pub no_bench : (time : ℕ) (c : Option Ready) → next_row time c None ≡ None
+no_bench time None = refl
+no_bench time (Some r) = refl
+
 -- the policy names the step of the entry that is chosen
 named_as : (p : Placing) (rs : List Ready) → named p rs ≡ option_map (λ r. r.step) (chosen p rs)
 named_as p [] = refl
@@ -97,7 +102,7 @@ waits benches ss p w st e = go (chosen p (ready_list ss w st)) refl (free benche
     go (Some q) a (Some bench) b e = clash (cc)
 
 -- by the tables of the code
-module _ (ss : List Step) (tails : List ℕ) (way : List Bool) (time : ℕ) (rows : List Row) (ends : List ℕ) (tailed : (i : ℕ) → i < length ss → get_or tails i 0 ≡ tail ss i) (tracks : Tracks rows ends) (benches : ℕ) (p : Placing) where
+module _ (ss : List Step) (tails : List ℕ) (way : List Bool) (time : ℕ) (rows : List Row) (ends : List (Option ℕ)) (tailed : (i : ℕ) → i < length ss → get_or tails i 0 ≡ tail ss i) (tracks : Tracks rows ends) (benches : ℕ) (p : Placing) where
   listed_as : ready_by ss tails way time ends ≡ ready_list ss (members way) (moment time (reverse rows))
   listed_as =
       tails_same (ready_among ss (members way) (started_by ends) (done_by time ends)) (λ k. get_or tails k 0) (tail ss) 0 ss (λ k h. tailed k (omega arith))

@@ -8,7 +8,7 @@ use Rattle.schedules.specs.Dispatch.{timetable, finish}
 use Rattle.schedules.specs.Rule.{Dispatched}
 use Rattle.ways.specs.Sums.{minutes_of, chain_of}
 use Rattle.schedules.specs.Timetables.{ValidTimetable}
-use Rattle.dispatch.specs.declared.run.turning.Timetable.{Timetable}
+use Rattle.dispatch.specs.declared.job.turning.Timetable.{Timetable}
 
 -- of the answer t, with the rows that the caller lent before and after
 pub record Dispatches (benches : ℕ) (ss : List Step) (w : Set) (p : Placing) (before after : List Row) (t : Timetable) : Type 0 where

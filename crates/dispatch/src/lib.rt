@@ -1,7 +1,7 @@
 // The timetable of a way: list scheduling of its steps on the benches, under a policy.
 #![tactic(auto)]
 
-mod looking;
+mod job;
 mod run;
 
-pub use run::{Timetable, dispatch};
+pub use job::{Timetable, dispatch};

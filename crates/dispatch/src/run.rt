@@ -4,15 +4,11 @@ ghost use Rattle.steps.specs.Limits.{max_steps};
 
 use steps::limits::MAX_STEPS;
 
-mod turning;
-
-pub use turning::{Timetable, dispatch};
-
-// The time, how many rows are written, and the end of each step that has begun, 0 for each that has not.
+// The time, how many rows are written, and the end of each step that has begun.
 #[derive(Drop)]
-struct Run {
-    time: u32,
-    count: usize,
-    ends: [u32; MAX_STEPS],
+pub(crate) struct Run {
+    pub(crate) time: u32,
+    pub(crate) count: usize,
+    pub(crate) ends: [Option<u32>; MAX_STEPS],
     ghost whole: { length ends ≡ max_steps },
 }

@@ -1,0 +1,83 @@
+// What is ready, what is free, and what ends next.
+ghost use Rattle.std.specs.Prelude.{◌≡◌, ℕ, suc, ◌<◌, false, not, is_some, ◌&&◌, min, map, length, drop, nat_lt, slice_index_or};
+ghost use Rattle.std.specs.List.{filter, find, range_with_len, reduce};
+ghost use Rattle.schedules.specs.Dispatch.{busy, fed};
+ghost use Rattle.dispatch.specs.Members.{members};
+ghost use Rattle.dispatch.specs.Tracking.{passed, done_by, ready_by};
+
+use super::Job;
+use crate::run::Run;
+use arrayvec::ArrayVec;
+use steps::limits::MAX_STEPS;
+use steps::ready::Ready;
+use steps::row::Row;
+
+// Whether a step is on the way and not done.
+fn is_pending(on_way: bool, end: Option<u32>, time: u32) -> bool
+    ensures { result ≡ (on_way && not (passed time end)) }
+{
+    on_way && end.is_none_or(|end| end > time)
+}
+
+// Whether a step is on the way, has not begun and need not wait.
+fn may_begin(on_way: bool, end: Option<u32>, waits: bool) -> bool
+    ensures { result ≡ (on_way && not (is_some end) && not waits) }
+{
+    on_way && end.is_none() && !waits
+}
+
+impl<'a> Job<'a> {
+    // Marks the steps that wait for a feeder on the way which has not ended.
+    fn waiting(&self, run: &Run) -> [bool; MAX_STEPS]
+        ensures { (i : ℕ) → i < length self.now.steps.now → slice_index_or result i false ≡ not (fed (members self.now.way.now) (done_by run.now.time run.now.ends) i (suc i) (drop (suc i) self.now.steps.now)) }
+    {
+        let mut waiting = [false; MAX_STEPS];
+        for k in (1..self.steps.len()).rev() {
+            if is_pending(self.way[k], run.ends[k], run.time) {
+                waiting[self.steps[k].target as usize] = true;
+            }
+        }
+        waiting
+    }
+
+    // The steps that are ready, ascending.
+    pub(super) fn ready(&self, run: &Run) -> ArrayVec<Ready, MAX_STEPS>
+        ensures { result.items ≡ ready_by self.now.steps.now self.now.tails.now self.now.way.now run.now.time run.now.ends }
+    {
+        let waiting = self.waiting(run);
+        let mut ready = ArrayVec::new();
+        for (i, step) in self.steps.iter().enumerate() {
+            if may_begin(self.way[i], run.ends[i], waiting[i]) {
+                ready.push(Ready {
+                    step: i as u16,
+                    minutes: step.minutes,
+                    tail: self.tails[i],
+                });
+            }
+        }
+        ready
+    }
+}
+
+fn is_busy(rows: &[Row], bench: u8, time: u32) -> bool
+    ensures { result ≡ busy time bench rows.now }
+{
+    rows.iter().any(|row| row.bench == bench && row.end > time)
+}
+
+// The lowest bench on which nothing runs.
+pub(super) fn lowest_free(rows: &[Row], benches: u8, time: u32) -> Option<u8>
+    ensures { result ≡ find (λ b. not (busy time b rows.now)) (range_with_len 0 benches) }
+{
+    (0..benches).find(|&bench| !is_busy(rows, bench, time))
+}
+
+// The least of the ends that are later.
+pub(super) fn next_end(rows: &[Row], time: u32) -> Option<u32>
+    ensures { result ≡ reduce min (map (λ r. r.end) (filter (λ r. nat_lt time r.end) rows.now)) }
+{
+    rows.iter()
+        .filter(|row| row.end > time)
+        .map(|row| row.end)
+        .min()
+}
