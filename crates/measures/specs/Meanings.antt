@@ -1,5 +1,5 @@
 -- What the measures mean.
-use Rattle.std.specs.Prelude.{Bool, true, false, ℕ, ◌+◌, min, max}
+use Rattle.std.specs.Prelude.{ℕ, ◌+◌, min, max}
 use Rattle.std.proofs.Common.{arith}
 use Rattle.ways.specs.Measures.{Meaning}
 
@@ -36,8 +36,3 @@ fees_meaning = record {
   joins_rise = λ a b c d p q. omega arith;
   grows_rise = λ s a b p. omega arith;
 }
-
--- the first of two where a choice is made for it, else the second
-abbrev pub chosen : {A : Type 0} → Bool → A → A → A
-chosen true a b = a
-chosen false a b = b

@@ -1,5 +1,5 @@
 -- What the policies mean.
-use Rattle.std.specs.Prelude.{ℕ, Bool, true, false, cond, not, List, ◌==◌, nat_lt, refl}
+use Rattle.std.specs.Prelude.{ℕ, Bool, cond, not, List, ◌==◌, nat_lt, refl}
 use Rattle.steps.specs.declared.ready.Ready.{Ready}
 use Rattle.steps.specs.Placing.{Placing}
 use Rattle.steps.specs.Tests.{any}
@@ -39,8 +39,3 @@ abbrev pub rush_layer : List ℕ → Placing → Placing
 rush_layer marks below =
     placing (λ rs. cond (any (marked marks) rs) (first_of (marked marks) rs) (below.place rs))
     (λ rs some. first_or_inside (marked marks) (below.place rs) rs (below.inside rs some)) below.nothing
-
--- the first of two where a choice is made for it, else the second
-abbrev pub chosen : Bool → Placing → Placing → Placing
-chosen true a b = a
-chosen false a b = b

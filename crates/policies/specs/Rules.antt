@@ -1,6 +1,6 @@
 -- The rules of the policies, in words of the entries: what is so of the place that each names in a list with entries whose step
 -- numbers rise.
-use Rattle.std.specs.Prelude.{◌≡◌, ℕ, ◌<◌, ◌≤◌, Bool, true, false, List, length, slice_index_or}
+use Rattle.std.specs.Prelude.{◌≡◌, ℕ, ◌<◌, ◌≤◌, true, false, List, length, slice_index_or}
 use Rattle.steps.specs.declared.ready.Ready.{Ready}
 use Rattle.steps.specs.Placing.{Placing, no_ready}
 use Rattle.policies.specs.Meanings.{rank, marked}
@@ -22,8 +22,3 @@ pub record FirstRanked (ranks : List ℕ) (rs : List Ready) (i : ℕ) : Type 0 w
 pub record FirstMarked (marks : List ℕ) (below : Placing) (rs : List Ready) (i : ℕ) : Type 0 where
   pub some : (k : ℕ) → k < length rs → marked marks (entry rs k) ≡ true → (marked marks (entry rs i) ≡ true) × ((j : ℕ) → j < i → marked marks (entry rs j) ≡ false)
   pub none : ((k : ℕ) → k < length rs → marked marks (entry rs k) ≡ false) → i ≡ below.place rs
-
--- of a choice between two policies, the rule of the one that is chosen
-abbrev pub ByChoice : Bool → Type 0 → Type 0 → Type 0
-ByChoice true P Q = P
-ByChoice false P Q = Q

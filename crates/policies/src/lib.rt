@@ -18,9 +18,9 @@ mod values;
 pub use changing::{Changeable, clear};
 pub use counter_list::CounterList;
 pub use longest_tail::LongestTail;
-pub use one_of::OneOf;
 pub use rush_layer::RushLayer;
 pub use sheet_order::SheetOrder;
+pub use steps::one_of::OneOf;
 pub use values::KEPT_VALUES;
 
 // A policy names a place, counted from 0, in a list of ready steps, and changes nothing by that. It means the place that it
