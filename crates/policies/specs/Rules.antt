@@ -1,12 +1,10 @@
 -- The rules of the policies, in words of the entries: what is so of the place that each names in a list with entries whose step
 -- numbers rise.
-use Rattle.std.specs.Prelude.{◌≡◌, ℕ, ◌<◌, ◌≤◌, true, false, List, length, slice_index_or}
+use Rattle.std.specs.Prelude.{◌≡◌, ℕ, ◌<◌, ◌≤◌, true, false, List, length}
 use Rattle.steps.specs.declared.ready.Ready.{Ready}
-use Rattle.steps.specs.Placing.{Placing, no_ready}
+use Rattle.steps.specs.Placing.{Placing}
+use Rattle.policies.specs.Places.{entry}
 use Rattle.policies.specs.Meanings.{rank, marked}
-
-abbrev pub entry : List Ready → ℕ → Ready
-entry rs k = slice_index_or rs k no_ready
 
 -- no tail is longer, and all before it are shorter
 pub record FirstLongest (rs : List Ready) (i : ℕ) : Type 0 where

@@ -11,6 +11,7 @@ mod changing;
 mod counter_list;
 mod longest_tail;
 mod one_of;
+mod places;
 mod rush_layer;
 mod sheet_order;
 mod values;
@@ -35,19 +36,4 @@ pub trait Policy {
     fn pick(&self, ready: &[Ready]) -> usize
         ensures place { result ≡ (placing self.now).place ready.now }
         ensures rule { rising ready.now ≡ true → 0 < length ready.now → rule self.now ready.now result };
-}
-
-// Whether the step numbers rise.
-fn rises(ready: &[Ready]) -> bool
-    ensures { result ≡ rising ready.now }
-{
-    let mut floor = 0u32;
-    for r in ready {
-        let step = u32::from(r.step);
-        if step < floor {
-            return false;
-        }
-        floor = step + 1;
-    }
-    true
 }
