@@ -1,7 +1,8 @@
 -- What least's answer says of the open ways.
 use Rattle.std.proofs.Common.{◌≡◌, ℕ, ◌<◌, ◌≤◌, Bool, true, false, cond, ltb, List, length, get_or, Some, None, Ok, Err, Option, Result, sym, refl, ap, ◌∙◌, subst, arith}
 use Rattle.std.proofs.lemmas.List.{get_or-map}
-use Rattle.std.proofs.lemmas.Bool.{cond-true, cond-false, le-ltb}
+use Rattle.std.proofs.lemmas.Bool.{cond-false, le-ltb}
+use Rattle.std.specs.Option.{option_map, ok_or}
 use Rattle.steps.proofs.Clashes.{clash}
 use Rattle.steps.specs.declared.refusal.Refusal.{Refusal}
 use Rattle.steps.specs.declared.refusal.Refusal.TheVariants.{NoOpenWay, TableTooShort}
@@ -12,7 +13,7 @@ use Rattle.ways.specs.Least.{least_of, IsLeast}
 use Rattle.ways.specs.Measures.{Meaning, numbers}
 use Rattle.ways.proofs.LeastRight.{least_right, numbers_rise, least_reported}
 use Rattle.least.specs.declared.Entry.{Entry}
-use Rattle.least.specs.Entries.{Shown, shown, entry_for, Filled}
+use Rattle.least.specs.Entries.{Shown, least_figure, shown, entry_for, Filled}
 use Rattle.sheet.specs.Least.{told_figure, reported, least_answer, Shut, LeastPromise}
 
 -- a figure is reported where there is one, and a refusal where there is none
@@ -26,14 +27,16 @@ err_none None e h = refl
 err_none (Some k) e h = clash (cc)
 
 module _ (F : Type 0) (m : Meaning) (figure_number : F → ℕ) (ss : List Step) (before after : List (Entry F)) where
-  -- the entry that is read of step 0, by its found mark
-  pub first_found : (x : Entry F) → 0 < length ss → length ss ≤ length after → x ≡ get_or after 0 x → Filled m figure_number ss before after → x.found ≡ true → least_of (numbers m) ss 0 ≡ Some (figure_number x.figure)
-  first_found x some room is_x filled found =
-      sym (ap (λ (v : Shown). v.least) (ap (shown figure_number) is_x ∙ sym (get_or-map (shown figure_number) after 0 x (entry_for m None) (omega arith)) ∙ filled.entries 0 some)) ∙ cond-true x.found _ _ found
+  -- the figure of the entry that is read of step 0
+  pub first_least : (x : Entry F) (o : Option F) → 0 < length ss → length ss ≤ length after → x ≡ get_or after 0 x → o ≡ least_figure x → Filled m figure_number ss before after → option_map figure_number o ≡ least_of (numbers m) ss 0
+  first_least x o some room is_x is_o filled =
+      ap (option_map figure_number) is_o
+      ∙ ap (λ (v : Shown). v.least) (ap (shown figure_number) is_x ∙ sym (get_or-map (shown figure_number) after 0 x (entry_for m None) (omega arith)) ∙ filled.entries 0 some)
 
-  pub first_none : (x : Entry F) → 0 < length ss → length ss ≤ length after → x ≡ get_or after 0 x → Filled m figure_number ss before after → x.found ≡ false → least_of (numbers m) ss 0 ≡ None
-  first_none x some room is_x filled missing =
-      sym (ap (λ (v : Shown). v.least) (ap (shown figure_number) is_x ∙ sym (get_or-map (shown figure_number) after 0 x (entry_for m None) (omega arith)) ∙ filled.entries 0 some)) ∙ cond-false x.found _ _ missing
+  -- what is told of it
+  pub told_least : (o : Option F) → told_figure figure_number (ok_or o NoOpenWay) ≡ reported (option_map figure_number o)
+  told_least None = refl
+  told_least (Some f) = refl
 
   module _ (lower_targets : Descending ss) (some : 0 < length ss) (r : Result F Refusal) where
     right : (i : ℕ) → i < length ss → IsLeast (numbers m) ss i (least_of (numbers m) ss i)
