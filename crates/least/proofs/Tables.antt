@@ -6,7 +6,7 @@ use Rattle.steps.specs.declared.step.Step.{Step}
 use Rattle.steps.specs.Sheet.{step}
 use Rattle.ways.specs.Least.{least_of}
 use Rattle.ways.specs.Measures.{Meaning, numbers}
-use Rattle.ways.specs.Progress.{folded, finished, progress}
+use Rattle.ways.specs.Progress.{started, folded, finished, progress}
 use Rattle.ways.proofs.Held.{hold_one, hold_two}
 use Rattle.ways.proofs.Settling.{here, settled_least, later, folded_in, unchanged}
 use Rattle.least.specs.declared.Entry.{Entry}
@@ -23,14 +23,15 @@ module _ (F : Type 0) (m : Meaning) (number : F → ℕ) (ss : List Step) where
   set_seen table i e v h = map-set (shown number) table i e ∙ ap (set (seen table) i) h
 
   -- an entry more is begun
-  pub begun_more : (P : ℕ → Shown) (table : List (Entry F)) (i : ℕ) (e : Entry F) → i < length table → ((k : ℕ) → k < i → get_or (seen table) k (entry_for m None) ≡ P k) → shown number e ≡ P i → (k : ℕ) → k < i + 1 → get_or (seen (set table i e)) k (entry_for m None) ≡ P k
-  begun_more P table i e l old is_e =
-      let n = length-map table (shown number) in
+  pub begun_more : (table : List (Entry F)) (i : ℕ) → i < length table → ((k : ℕ) → k < i → get_or (seen table) k (entry_for m None) ≡ entry_for m (started (numbers m) (step ss k).join)) → (o : Option F) → option_map number o ≡ started (numbers m) (step ss i).join → (e : Entry F) → shown number e ≡ entry_for m (option_map number o) → (k : ℕ) → k < i + 1 → get_or (seen (set table i e)) k (entry_for m None) ≡ entry_for m (started (numbers m) (step ss k).join)
+  begun_more table i l old o is_o e is_e =
       let d = entry_for m None in
-      rw (set_seen table i e (P i) is_e)
-      (below_more (λ k. get_or (set (seen table) i (P i)) k d ≡ P k) i
-      (λ k h. get_or-set_other (seen table) i k (P i) d (λ z. omega arith) ∙ old k h)
-      (get_or-set_same (seen table) i (P i) d (omega (arith, n))))
+      let begun : ℕ → Shown = λ k. entry_for m (started (numbers m) (step ss k).join) in
+      let n = length-map table (shown number) in
+      rw (set_seen table i e (begun i) (is_e ∙ ap (entry_for m) is_o))
+      (below_more (λ k. get_or (set (seen table) i (begun i)) k d ≡ begun k) i
+      (λ k h. get_or-set_other (seen table) i k (begun i) d (λ z. omega arith) ∙ old k h)
+      (get_or-set_same (seen table) i (begun i) d (omega (arith, n))))
 
   module _ (table : List (Entry F)) (i : ℕ) (room : length ss ≤ length table) (within : i < length ss) (given : Settled m number ss (i + 1) table) where
     old : Settled m number ss (suc i) table

@@ -3,7 +3,6 @@ use Rattle.std.proofs.Common.{◌≡◌, ℕ, ◌<◌, ◌≤◌, Bool, true, fa
 use Rattle.std.proofs.lemmas.List.{get_or-map}
 use Rattle.std.proofs.lemmas.Bool.{cond-false, le-ltb}
 use Rattle.std.specs.Option.{option_map, ok_or}
-use Rattle.steps.proofs.Clashes.{clash}
 use Rattle.steps.specs.declared.refusal.Refusal.{Refusal}
 use Rattle.steps.specs.declared.refusal.Refusal.TheVariants.{NoOpenWay, TableTooShort}
 use Rattle.steps.specs.declared.step.Step.{Step}
@@ -18,13 +17,13 @@ use Rattle.sheet.specs.Least.{told_figure, reported, least_answer, Shut, LeastPr
 
 -- a figure is reported where there is one, and a refusal where there is none
 pub ok_some : (short : Bool) (e : ℕ) (o : Option ℕ) (n : ℕ) → cond short (Err e) (reported o) ≡ Ok n → o ≡ Some n
-ok_some true e o n h = clash (cc)
-ok_some false e None n h = clash (cc)
+ok_some true e o n h = cc
+ok_some false e None n h = cc
 ok_some false e (Some k) n h = let same : k ≡ n = cc in ap Some same
 
 pub err_none : (o : Option ℕ) (e : ℕ) → reported o ≡ Err e → o ≡ None
 err_none None e h = refl
-err_none (Some k) e h = clash (cc)
+err_none (Some k) e h = cc
 
 module _ (F : Type 0) (m : Meaning) (figure_number : F → ℕ) (ss : List Step) (before after : List (Entry F)) where
   -- the figure of the entry that is read of step 0
@@ -34,9 +33,9 @@ module _ (F : Type 0) (m : Meaning) (figure_number : F → ℕ) (ss : List Step)
       ∙ ap (λ (v : Shown). v.least) (ap (shown figure_number) is_x ∙ sym (get_or-map (shown figure_number) after 0 x (entry_for m None) (omega arith)) ∙ filled.entries 0 some)
 
   -- what is told of it
-  pub told_least : (o : Option F) → told_figure figure_number (ok_or o NoOpenWay) ≡ reported (option_map figure_number o)
-  told_least None = refl
-  told_least (Some f) = refl
+  pub told_least : (o : Option F) (r : Result F Refusal) → r ≡ ok_or o NoOpenWay → told_figure figure_number r ≡ reported (option_map figure_number o)
+  told_least None r e = ap (told_figure figure_number) e
+  told_least (Some f) r e = ap (told_figure figure_number) e
 
   module _ (lower_targets : Descending ss) (some : 0 < length ss) (r : Result F Refusal) where
     right : (i : ℕ) → i < length ss → IsLeast (numbers m) ss i (least_of (numbers m) ss i)

@@ -3,7 +3,7 @@ use Rattle.std.proofs.Common.{◌<◌, ◌≤◌, ltb, length, take, sym, refl, 
 use Rattle.std.proofs.lemmas.List.{length-take-le}
 use Rattle.std.proofs.lemmas.Bool.{cond-true, cond-false, lt-ltb, le-ltb}
 use Rattle.least.specs.Entries.{Filled}
-use Rattle.sheet.specs.Least.{told_figure, reported}
+use Rattle.sheet.specs.Least.{reported}
 use Rattle.sheet.proofs.Promises.{promised, first_least, told_least}
 use Rattle.sheet.proofs.types.Issued.least.Goals as goal
 
@@ -34,6 +34,6 @@ returns g c =
     let filled = subst (λ x. Filled m number x before after) c.steps.ensures.value c.fill.ensures in
     let first = first_least _ m number ss before after _ c.least.result some (omega (arith, room, c.fill.auto.table)) c.index-table-0.is c.least.ensures filled in
     promised _ m number ss before after d.descending some _
-    (ap (told_figure number) c.ok_or.ensures.value ∙ told_least _ m number ss before after _ ∙ ap reported first ∙ sym (cond-false (ltb (length before) (length ss)) _ _ (le-ltb _ _ room)))
+    (told_least _ m number ss before after _ _ c.ok_or.ensures.value ∙ ap reported first ∙ sym (cond-false (ltb (length before) (length ss)) _ _ (le-ltb _ _ room)))
     (λ short. absurd (omega (arith, short, room)))
     (λ _. filled)
