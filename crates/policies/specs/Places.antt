@@ -1,11 +1,10 @@
 -- Which place of a list of ready steps a rule names.
 use Rattle.std.specs.Prelude.{◌≡◌, ℕ, ◌<◌, Bool, true, false, cond, not, List, length, slice_index_or}
-use Rattle.std.specs.Fn.{AnyResult}
+use Rattle.std.proofs.Common.{Bor}
+use Rattle.std.specs.Fn.{Shared, AnyResult}
 use Rattle.std.specs.List.{list_any, position_or_len}
 use Rattle.steps.specs.declared.ready.Ready.{Ready}
 use Rattle.steps.specs.Placing.{rising, no_ready}
-use denote.Param.Members.{Shared}
-use denote.Ref.{Bor}
 
 abbrev pub entry : List Ready → ℕ → Ready
 entry rs k = slice_index_or rs k no_ready
