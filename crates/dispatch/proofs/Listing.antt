@@ -3,11 +3,11 @@ use Rattle.std.proofs.Common.{◌≡◌, ℕ, suc, ◌+◌, ◌-◌, ◌<◌, Bo
 use mathlib.Core.Bool.{not-not}
 use Rattle.std.proofs.lemmas.List.{at_drop_more, take_more_set}
 use Rattle.std.proofs.lemmas.Bool.{or_left}
+use Rattle.std.specs.List.{list_any}
 use Rattle.steps.specs.declared.ready.Ready.{Ready}
 use Rattle.steps.specs.declared.row.Row.{Row}
 use Rattle.steps.specs.declared.step.Step.{Step}
 use Rattle.steps.specs.Sheet.{step, blank}
-use Rattle.steps.specs.Tests.{any}
 use Rattle.schedules.specs.Dispatch.{State, fed, ready_among, busy, unless_busy, free_from, keep, entry, readies, earlier, next_end}
 use Rattle.schedules.specs.Timetables.{row, no_row}
 use Rattle.ways.specs.Ways.{Set}
@@ -29,11 +29,11 @@ module _ (test : ℕ → Bool) (tails : ℕ → ℕ) (ss : List Step) (i : ℕ) 
         ap (λ xs. take count ready ++ xs) (sym (readies_step ∙ ap (λ b. keep b (entry tails i (step ss i)) (readies test tails (i + 1) (drop (i + 1) ss))) e)) ∙ so_far
 
 module _ (test : Row → Bool) (rows : List Row) (i : ℕ) (h : i < length rows) where
-  pub any_here : test (row rows i) ≡ true → any test (drop i rows) ≡ true
-  any_here e = at_drop_more (any test) rows i no_row h ∙ or_left _ _ e
+  pub any_here : test (row rows i) ≡ true → list_any test (drop i rows) ≡ true
+  any_here e = at_drop_more (list_any test) rows i no_row h ∙ or_left _ _ e
 
-  pub any_later : test (row rows i) ≡ false → any test (drop (i + 1) rows) ≡ any test (drop i rows)
-  any_later e = sym (at_drop_more (any test) rows i no_row h ∙ ap (λ b. b || any test (drop (i + 1) rows)) e)
+  pub any_later : test (row rows i) ≡ false → list_any test (drop (i + 1) rows) ≡ list_any test (drop i rows)
+  any_later e = sym (at_drop_more (list_any test) rows i no_row h ∙ ap (λ b. b || list_any test (drop (i + 1) rows)) e)
 
 module _ (st : State) (benches b : ℕ) (h : b < benches) where
   free_step : free_from st b (benches - b) ≡ unless_busy (busy st.now b st.rows) b (free_from st (b + 1) (benches - (b + 1)))

@@ -1,24 +1,17 @@
 -- What is kept by step stays true when a step begins.
 use Rattle.std.proofs.Common.{◌≡◌, ℕ, ◌<◌, Bool, true, false, cond, ◌&&◌, ◌||◌, eqb, ltb, leb, List, [], ◌∷◌, ◌++◌, length, get_or, set, sym, refl, ap, ◌∙◌, subst, inl, inr}
 use Rattle.std.proofs.lemmas.List.{get_or-set_same, get_or-set_other}
+use Rattle.std.proofs.Math.Bool.{or-false}
 use Rattle.std.proofs.lemmas.Bool.{cases_eq, eq-eqb, ne_eqb, lt-ltb, or_parts, or_from}
+use Rattle.std.proofs.lemmas.List.Folds.{list_any-append}
+use Rattle.std.specs.List.{list_any}
 use Rattle.steps.specs.declared.row.Row.{Row}
-use Rattle.steps.specs.Tests.{any}
 use Rattle.schedules.specs.Dispatch.{begun, ended}
 use Rattle.schedules.specs.Timetables.{end_of}
 use Rattle.dispatch.specs.Tracking.{started_by, done_by, Tracks}
 
-any_push : (test : Row → Bool) (rows : List Row) (r : Row) → any test (rows ++ r ∷ []) ≡ (any test rows || test r)
-any_push test [] r = go (test r)
-  where
-    go : (b : Bool) → (b || false) ≡ (false || b)
-    go true = refl
-    go false = refl
-any_push test (q ∷ rows) r = ap (λ b. test q || b) (any_push test rows r) ∙ go (test q) (any test rows) (test r)
-  where
-    go : (a b c : Bool) → (a || (b || c)) ≡ ((a || b) || c)
-    go true b c = refl
-    go false b c = refl
+any_push : (test : Row → Bool) (rows : List Row) (r : Row) → list_any test (rows ++ r ∷ []) ≡ (list_any test rows || test r)
+any_push test rows r = list_any-append test rows (r ∷ []) ∙ ap (λ b. list_any test rows || b) (or-false (test r))
 
 end_push : (i : ℕ) (rows : List Row) (r : Row) → end_of i (rows ++ r ∷ []) ≡ cond (begun i rows) (end_of i rows) (cond (eqb r.step i) r.end 0)
 end_push i [] r = refl
@@ -60,17 +53,13 @@ module _ (rows : List Row) (ends : List ℕ) (r : Row) (tracks : Tracks rows end
         (λ i ne. end_push i rows r ∙ ap (λ b. cond (begun i rows) (end_of i rows) (cond b r.end 0)) (ne_eqb r.step i (λ e. ne (sym e))) ∙ or_none i (begun i rows) refl ∙ tracks.end_as i ∙ sym (other_end i ne));
     begun_as = by_step (λ i. begun i (rows ++ r ∷ []) ≡ started_by (set ends r.step r.end) i)
         (any_push _ rows r ∙ ap (λ b. b || eqb r.step r.step) fresh ∙ eq-eqb r.step r.step refl ∙ sym (ap (ltb 0) here_end ∙ lt-ltb 0 r.end lasts))
-        (λ i ne. any_push _ rows r ∙ ap (λ b. begun i rows || b) (ne_eqb r.step i (λ e. ne (sym e))) ∙ or_false (begun i rows) ∙ tracks.begun_as i ∙ sym (ap (ltb 0) (other_end i ne)));
+        (λ i ne. any_push _ rows r ∙ ap (λ b. begun i rows || b) (ne_eqb r.step i (λ e. ne (sym e))) ∙ or-false (begun i rows) ∙ tracks.begun_as i ∙ sym (ap (ltb 0) (other_end i ne)));
     ended_as = λ t. by_step (λ i. ended t i (rows ++ r ∷ []) ≡ done_by t (set ends r.step r.end) i)
         (any_push _ rows r ∙ ap (λ b. b || (eqb r.step r.step && leb r.end t)) (not_ended t r.step rows fresh) ∙ ap (λ b. b && leb r.end t) (eq-eqb r.step r.step refl)
         ∙ sym (ap (λ e. ltb 0 e && leb e t) here_end ∙ ap (λ b. b && leb r.end t) (lt-ltb 0 r.end lasts)))
-        (λ i ne. any_push _ rows r ∙ ap (λ b. ended t i rows || (b && leb r.end t)) (ne_eqb r.step i (λ e. ne (sym e))) ∙ or_false (ended t i rows) ∙ tracks.ended_as t i ∙ sym (ap (λ e. ltb 0 e && leb e t) (other_end i ne)));
+        (λ i ne. any_push _ rows r ∙ ap (λ b. ended t i rows || (b && leb r.end t)) (ne_eqb r.step i (λ e. ne (sym e))) ∙ or-false (ended t i rows) ∙ tracks.ended_as t i ∙ sym (ap (λ e. ltb 0 e && leb e t) (other_end i ne)));
   }
     where
-      or_false : (b : Bool) → (b || false) ≡ b
-      or_false true = refl
-      or_false false = refl
-
       or_none : (i : ℕ) (b : Bool) → begun i rows ≡ b → cond b (end_of i rows) 0 ≡ end_of i rows
       or_none i true e = refl
       or_none i false e = sym (no_end i rows e)

@@ -1,11 +1,11 @@
 -- Dispatching: how a way is carried out on benches, turn by turn.
 use Rattle.std.specs.Prelude.{ℕ, zero, suc, ◌+◌, ◌*◌, min, Bool, true, false, not, ◌&&◌, ◌||◌, List, [], ◌∷◌, reverse, length, drop, Some, None, Option, ◌==◌, nat_le, nat_lt, slice_index_or}
+use Rattle.std.specs.List.{list_any}
 use Rattle.steps.specs.declared.ready.Ready.{Ready}
 use Rattle.steps.specs.declared.row.Row.{Row}
 use Rattle.steps.specs.declared.step.Step.{Step}
 use Rattle.steps.specs.Placing.{Placing, no_ready}
 use Rattle.steps.specs.Sheet.{step}
-use Rattle.steps.specs.Tests.{any}
 use Rattle.ways.specs.Paths.{tail}
 use Rattle.ways.specs.Ways.{Set}
 use Rattle.schedules.specs.Timetables.{end_of}
@@ -19,13 +19,13 @@ abbrev pub moment : ℕ → List Row → State
 moment now rows = record { now = now; rows = rows }
 
 abbrev pub busy : ℕ → ℕ → List Row → Bool
-busy now b rows = any (λ r. (r.bench == b) && nat_lt now r.end) rows
+busy now b rows = list_any (λ r. (r.bench == b) && nat_lt now r.end) rows
 
 abbrev pub begun : ℕ → List Row → Bool
-begun i rows = any (λ r. r.step == i) rows
+begun i rows = list_any (λ r. r.step == i) rows
 
 abbrev pub ended : ℕ → ℕ → List Row → Bool
-ended now i rows = any (λ r. (r.step == i) && nat_le r.end now) rows
+ended now i rows = list_any (λ r. (r.step == i) && nat_le r.end now) rows
 
 abbrev pub over : State → Set
 over st k = ended st.now k st.rows
