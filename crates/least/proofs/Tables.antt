@@ -1,70 +1,73 @@
--- The same of a table of entries, as the code holds it.
-use Rattle.std.proofs.Common.{◌≡◌, ℕ, zero, suc, ◌+◌, ◌<◌, ◌≤◌, ◌≢◌, List, map, length, get_or, drop, set, None, sym, refl, ap, ◌∙◌, subst, inl, inr, arith}
+-- A table of entries as the code holds it: what is written makes one step more settled.
+use Rattle.std.proofs.Common.{◌≡◌, ℕ, suc, ◌+◌, ◌<◌, ◌≤◌, ◌≢◌, List, map, length, get_or, set, None, Option, sym, refl, ap, ◌∙◌, subst, ap₂, add-one, arith, below_more}
 use Rattle.std.proofs.lemmas.List.{get_or-map, get_or-set_same, get_or-set_other, map-set, length-map}
-use Rattle.std.proofs.lemmas.Bool.{cases_eq}
+use Rattle.std.specs.Option.{option_map}
 use Rattle.steps.specs.declared.step.Step.{Step}
 use Rattle.steps.specs.Sheet.{step}
 use Rattle.ways.specs.Least.{least_of}
 use Rattle.ways.specs.Measures.{Meaning, numbers}
+use Rattle.ways.specs.Progress.{started, folded, finished, progress}
+use Rattle.ways.proofs.Held.{hold_one, hold_two}
+use Rattle.ways.proofs.Settling.{here, settled_least, later, folded_in, unchanged}
 use Rattle.least.specs.declared.Entry.{Entry}
-use Rattle.least.specs.Entries.{Shown, shown, entry_for, started, folded, finished, Filled}
-use Rattle.least.specs.Progress.{progress, Settled, SettledTable}
-use Rattle.least.proofs.Settling.{begun, ended, settled_least, settled_first, settled_more}
+use Rattle.least.specs.Entries.{Shown, least_figure, shown, entry_for}
+use Rattle.least.specs.Progress.{Settled}
 
 module _ (F : Type 0) (m : Meaning) (number : F → ℕ) (ss : List Step) where
-  -- the entry x that is read at k shows how far k is
-  read_at : (table : List (Entry F)) (i k : ℕ) (x : Entry F) → k < length table → k < length ss → x ≡ get_or table k x → SettledTable m number ss i table → shown number x ≡ entry_for m (progress m ss i k)
-  read_at table i k x l h e old = ap (shown number) e ∙ sym (get_or-map (shown number) table k x (entry_for m None) l) ∙ old k h
+  -- what the entries of a table show
+  abbrev seen : List (Entry F) → List Shown
+  seen table = map (shown number) table
 
-  settled_entry : (table : List (Entry F)) (i : ℕ) (x e : Entry F) → i < length table → i < length ss → x ≡ get_or table i x → SettledTable m number ss (suc i) table → shown number e ≡ entry_for m (finished m i (step ss i) (shown number x).least) → shown number e ≡ entry_for m (least_of (numbers m) ss i)
-  settled_entry table i x e l h is_x old is_e =
-      is_e
-      ∙ ap (λ (v : Shown). entry_for m (finished m i (step ss i) v.least)) (read_at table (suc i) i x l h is_x old)
-      ∙ ap (entry_for m) (settled_least m ss i)
+  -- with an entry written that shows v
+  set_seen : (table : List (Entry F)) (i : ℕ) (e : Entry F) (v : Shown) → shown number e ≡ v → seen (set table i e) ≡ set (seen table) i v
+  set_seen table i e v h = map-set (shown number) table i e ∙ ap (set (seen table) i) h
 
-  set_shown : (table : List (Entry F)) (i : ℕ) (e : Entry F) (v : Shown) → shown number e ≡ v → map (shown number) (set table i e) ≡ set (map (shown number) table) i v
-  set_shown table i e v h = map-set (shown number) table i e ∙ ap (set (map (shown number) table) i) h
-
-  -- step 0
-  table_first : (table : List (Entry F)) (x e : Entry F) → length ss ≤ length table → 0 < length ss → x ≡ get_or table 0 x → SettledTable m number ss 1 table → shown number e ≡ entry_for m (finished m 0 (step ss 0) (shown number x).least) → SettledTable m number ss 0 (set table 0 e)
-  table_first table x e room some is_x old is_e =
-      let v = settled_entry table 0 x e (omega arith) some is_x old is_e in
-      let l = length-map table (shown number) in
-      subst (Settled m ss 0) (sym (set_shown table 0 e _ v)) (settled_first m ss (map (shown number) table) (omega (arith, l)) some old)
-
-  pub table_at_first : (table : List (Entry F)) (i : ℕ) (x e : Entry F) → i ≡ 0 → length ss ≤ length table → i < length ss → x ≡ get_or table i x → SettledTable m number ss (suc i) table → shown number e ≡ entry_for m (finished m i (step ss i) (shown number x).least) → SettledTable m number ss i (set table i e)
-  table_at_first table zero x e z room h is_x old is_e = table_first table x e room h is_x old is_e
-  table_at_first table (suc i) x e z room h is_x old is_e = absurd (omega arith)
-
-  -- any other step, and its target
-  pub table_more : (table : List (Entry F)) (i : ℕ) (x e y f : Entry F) → length ss ≤ length table → i < length ss → (step ss i).target < i → x ≡ get_or table i x → SettledTable m number ss (suc i) table → shown number e ≡ entry_for m (finished m i (step ss i) (shown number x).least) → y ≡ get_or (set table i e) (step ss i).target y → shown number f ≡ entry_for m (folded m (step ss (step ss i).target).join (shown number e).least (shown number y).least) → SettledTable m number ss i (set (set table i e) (step ss i).target f)
-  table_more table i x e y f room h low is_x old is_e is_y is_f =
-      let t = (step ss i).target in
-      let l = length-map table (shown number) in
-      let v = settled_entry table i x e (omega arith) h is_x old is_e in
-      let ne : t ≢ i = (λ z. omega arith) in
-      let w = read_at table (suc i) t y (omega arith) (omega arith) (is_y ∙ get_or-set_other table i t e y ne) old in
-      let g = is_f
-      ∙ ap (λ (a : Shown). entry_for m (folded m (step ss t).join a.least (shown number y).least)) v
-      ∙ ap (λ (a : Shown). entry_for m (folded m (step ss t).join (least_of (numbers m) ss i) a.least)) w in
-      subst (Settled m ss i)
-      (sym (set_shown (set table i e) t f _ refl ∙ ap (λ es. set es t (shown number f)) (set_shown table i e _ v)))
-      (settled_more m ss (map (shown number) table) i (omega (arith, l)) h low old (shown number f) g)
-
-  -- the entries that are begun, one more
-  abbrev Begun : ℕ → List (Entry F) → Type 0
-  Begun i table = (k : ℕ) → k < i → get_or (map (shown number) table) k (entry_for m None) ≡ entry_for m (started m (step ss k).join)
-
-  pub begun_more : (table : List (Entry F)) (i : ℕ) (e : Entry F) → i < length table → Begun i table → shown number e ≡ entry_for m (started m (step ss i).join) → Begun (i + 1) (set table i e)
-  begun_more table i e l old is_e k h =
+  -- an entry more is begun
+  pub begun_more : (table : List (Entry F)) (i : ℕ) → i < length table → ((k : ℕ) → k < i → get_or (seen table) k (entry_for m None) ≡ entry_for m (started (numbers m) (step ss k).join)) → (o : Option F) → option_map number o ≡ started (numbers m) (step ss i).join → (e : Entry F) → shown number e ≡ entry_for m (option_map number o) → (k : ℕ) → k < i + 1 → get_or (seen (set table i e)) k (entry_for m None) ≡ entry_for m (started (numbers m) (step ss k).join)
+  begun_more table i l old o is_o e is_e =
+      let d = entry_for m None in
+      let begun : ℕ → Shown = λ k. entry_for m (started (numbers m) (step ss k).join) in
       let n = length-map table (shown number) in
-      ap (λ es. get_or es k (entry_for m None)) (set_shown table i e _ is_e) ∙ elim (cases_eq k i) [
-        | inl q ↦ subst (λ j. get_or (set (map (shown number) table) i (entry_for m (started m (step ss i).join))) j (entry_for m None) ≡ entry_for m (started m (step ss j).join)) (sym q) (get_or-set_same (map (shown number) table) i _ _ (omega (arith, n)))
-        | inr q ↦ get_or-set_other (map (shown number) table) i k _ _ q ∙ old k (omega (arith, h, q))
-      ]
+      rw (set_seen table i e (begun i) (is_e ∙ ap (entry_for m) is_o))
+      (below_more (λ k. get_or (set (seen table) i (begun i)) k d ≡ begun k) i
+      (λ k h. get_or-set_other (seen table) i k (begun i) d (λ z. omega arith) ∙ old k h)
+      (get_or-set_same (seen table) i (begun i) d (omega (arith, n))))
 
-  pub begun_all : (table : List (Entry F)) → Begun (length ss) table → SettledTable m number ss (length ss) table
-  begun_all table all k h = all k h ∙ ap (entry_for m) (sym (begun m ss k h))
+  module _ (table : List (Entry F)) (i : ℕ) (room : length ss ≤ length table) (within : i < length ss) (given : Settled m number ss (i + 1) table) where
+    old : Settled m number ss (suc i) table
+    old = subst (λ n. Settled m number ss n table) (add-one i) given
 
-  pub ended_all : (before table : List (Entry F)) → SettledTable m number ss 0 table → drop (length ss) table ≡ drop (length ss) before → Filled m number ss before table
-  ended_all before table all kept = record { entries = λ i h. all i h ∙ ap (entry_for m) (ended m ss i); kept = kept }
+    -- the figure of the entry x that is read at k is as far as step k is
+    read : (k : ℕ) (x : Entry F) (o : Option F) → k < length ss → x ≡ get_or table k x → o ≡ least_figure x → option_map number o ≡ progress (numbers m) ss (suc i) k
+    read k x o h is_x is_o =
+        ap (option_map number) is_o
+        ∙ ap (λ (v : Shown). v.least) (ap (shown number) is_x ∙ sym (get_or-map (shown number) table k x (entry_for m None) (omega arith)) ∙ old k h)
+
+    -- the entry of step i is read and written
+    module _ (x : Entry F) (is_x : x ≡ get_or table i x) (a : Option F) (is_a : a ≡ least_figure x) (b : Option F) (is_b : option_map number b ≡ finished (numbers m) i (step ss i) (option_map number a)) (e : Entry F) (is_e : shown number e ≡ entry_for m (option_map number b)) where
+      least : option_map number b ≡ least_of (numbers m) ss i
+      least = is_b ∙ ap (finished (numbers m) i (step ss i)) (read i x a within is_x is_a) ∙ settled_least (numbers m) ss i
+
+      written : shown number e ≡ entry_for m (progress (numbers m) ss i i)
+      written = is_e ∙ ap (entry_for m) (least ∙ sym (here (numbers m) ss i))
+
+      -- step 0
+      pub first_settled : i ≡ 0 → Settled m number ss i (set table i e)
+      first_settled z =
+          let n = length-map table (shown number) in
+          rw (set_seen table i e _ refl)
+          (hold_one (entry_for m None) (length ss) (λ k. entry_for m (progress (numbers m) ss (suc i) k)) (λ k. entry_for m (progress (numbers m) ss i k)) (seen table) i (shown number e) (omega (arith, n)) old written
+          (λ k h ne. ap (entry_for m) (later (numbers m) ss i k (omega arith))))
+
+      -- any other step, and the entry of its target
+      pub more_settled : (step ss i).target < i → (y : Entry F) → y ≡ get_or (set table i e) (step ss i).target y → (c : Option F) → c ≡ least_figure y → (d : Option F) → option_map number d ≡ folded (numbers m) (step ss (step ss i).target).join (option_map number b) (option_map number c) → (f : Entry F) → shown number f ≡ entry_for m (option_map number d) → Settled m number ss i (set (set table i e) (step ss i).target f)
+      more_settled low y is_y c is_c d is_d f is_f =
+          let t = (step ss i).target in
+          let n = length-map table (shown number) in
+          let other : t ≢ i = (λ z. omega arith) in
+          let so_far = read t y c (omega arith) (is_y ∙ get_or-set_other table i t e y other) is_c in
+          let folds = ap₂ (folded (numbers m) (step ss t).join) least so_far ∙ sym (folded_in (numbers m) ss i within low) in
+          rw (set_seen (set table i e) t f _ refl, set_seen table i e _ refl)
+          (hold_two (entry_for m None) (length ss) (λ k. entry_for m (progress (numbers m) ss (suc i) k)) (λ k. entry_for m (progress (numbers m) ss i k)) (seen table) i t (shown number e) (shown number f) (omega (arith, n)) low old written
+          (is_f ∙ ap (entry_for m) (is_d ∙ folds))
+          (λ k h ne nt. ap (entry_for m) (unchanged (numbers m) ss i k within ne nt)))

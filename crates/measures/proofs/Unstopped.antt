@@ -6,24 +6,22 @@ use native.Mathlib.Omega.{arith}
 use lib.ListN.{length}
 use Rattle.steps.specs.Limits.{max_fee}
 use Rattle.steps.specs.Sheet.{Sheet}
+use Rattle.ways.specs.declared.StepFacts.{StepFacts}
 use Rattle.ways.specs.Figures.{figure}
 use Rattle.ways.specs.Measures.{numbers}
 use Rattle.ways.specs.Sums.{adding, longest}
 use Rattle.ways.specs.Ways.{Set}
 use Rattle.ways.proofs.Added.{all_added, way_sum_most}
 use Rattle.ways.proofs.Compared.{figure_image, longest_below}
-use Rattle.measures.specs.Meanings.{max_sum, minutes_meaning, chain_meaning, fees_meaning}
+use Rattle.measures.specs.Meanings.{max_sum, summing, chain_meaning}
 use Rattle.measures.specs.Plain.{SumsPlain}
 
 abbrev stopped : ℕ → ℕ
 stopped n = min n max_sum
 
 module _ (s : Sheet) (w : Set) where
-  minutes_stopped : figure (numbers minutes_meaning) s.steps w 0 ≡ stopped (figure (adding (λ f. f.minutes)) s.steps w 0)
-  minutes_stopped = figure_image stopped (adding (λ f. f.minutes)) (numbers minutes_meaning) refl (λ a b. omega arith) (λ f a. omega arith) w s.steps 0
-
-  fees_stopped : figure (numbers fees_meaning) s.steps w 0 ≡ stopped (figure (adding (λ f. f.fee)) s.steps w 0)
-  fees_stopped = figure_image stopped (adding (λ f. f.fee)) (numbers fees_meaning) refl (λ a b. omega arith) (λ f a. omega arith) w s.steps 0
+  sum_stopped : (amount : StepFacts → ℕ) → figure (numbers (summing amount)) s.steps w 0 ≡ stopped (figure (adding amount) s.steps w 0)
+  sum_stopped amount = figure_image stopped (adding amount) (numbers (summing amount)) refl (λ a b. omega arith) (λ f a. omega arith) w s.steps 0
 
   chain_stopped : figure (numbers chain_meaning) s.steps w 0 ≡ stopped (figure longest s.steps w 0)
   chain_stopped = figure_image stopped longest (numbers chain_meaning) refl (λ a b. omega arith) (λ f a. omega arith) w s.steps 0
@@ -42,7 +40,7 @@ sums_plain limit s w room well way =
     let cheap = way_sum_most (λ f. f.fee) ss w max_fee (λ i h. well.priced i h) in
     let path = longest_below w ss 0 in
     record {
-      minutes = minutes_stopped s w ∙ within _ (omega (arith, minutes, few, top)) ∙ minutes;
+      minutes = sum_stopped s w (λ f. f.minutes) ∙ within _ (omega (arith, minutes, few, top)) ∙ minutes;
       chain = chain_stopped s w ∙ within _ (omega (arith, path, minutes, few, top));
-      fees = fees_stopped s w ∙ within _ (omega (arith, fees, cheap, top)) ∙ fees;
+      fees = sum_stopped s w (λ f. f.fee) ∙ within _ (omega (arith, fees, cheap, top)) ∙ fees;
     }

@@ -1,6 +1,7 @@
 -- What the measures mean.
-use Rattle.std.specs.Prelude.{Bool, true, false, ℕ, ◌+◌, min, max}
+use Rattle.std.specs.Prelude.{ℕ, ◌+◌, min, max}
 use Rattle.std.proofs.Common.{arith}
+use Rattle.ways.specs.declared.StepFacts.{StepFacts}
 use Rattle.ways.specs.Measures.{Meaning}
 
 -- sums stop here
@@ -10,15 +11,23 @@ max_sum = 4294967295
 abbrev pub sum : ℕ → ℕ → ℕ
 sum a b = min (a + b) max_sum
 
-abbrev pub minutes_meaning : Meaning
-minutes_meaning = record {
+-- an amount of each step of a way, all together
+abbrev pub summing : (StepFacts → ℕ) → Meaning
+summing amount = record {
   empty = 0;
   joins = sum;
-  grows = λ s a. sum a s.minutes;
+  grows = λ s a. sum a (amount s);
   joins_rise = λ a b c d p q. omega arith;
   grows_rise = λ s a b p. omega arith;
 }
 
+abbrev pub minutes_meaning : Meaning
+minutes_meaning = summing (λ s. s.minutes)
+
+abbrev pub fees_meaning : Meaning
+fees_meaning = summing (λ s. s.fee)
+
+-- the most minutes from a leaf to the hand-over
 abbrev pub chain_meaning : Meaning
 chain_meaning = record {
   empty = 0;
@@ -27,17 +36,3 @@ chain_meaning = record {
   joins_rise = λ a b c d p q. omega arith;
   grows_rise = λ s a b p. omega arith;
 }
-
-abbrev pub fees_meaning : Meaning
-fees_meaning = record {
-  empty = 0;
-  joins = sum;
-  grows = λ s a. sum a s.fee;
-  joins_rise = λ a b c d p q. omega arith;
-  grows_rise = λ s a b p. omega arith;
-}
-
--- the first of two where a choice is made for it, else the second
-abbrev pub chosen : {A : Type 0} → Bool → A → A → A
-chosen true a b = a
-chosen false a b = b

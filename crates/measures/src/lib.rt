@@ -15,7 +15,7 @@ mod one_of;
 pub use chain::Chain;
 pub use fees::Fees;
 pub use minutes::Minutes;
-pub use one_of::OneOf;
+pub use steps::one_of::OneOf;
 
 // A measure rates ways by figures, each of which stands for a number. Its meaning is its rules on these numbers, with their
 // laws: neither joining nor growing falls when a figure rises.

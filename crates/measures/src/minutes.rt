@@ -3,7 +3,8 @@ ghost use Rattle.measures.specs.Meanings.{minutes_meaning};
 use crate::Measure;
 use ways::StepFacts;
 
-// The work of a way: all its minutes together.
+// The work of a way: all its minutes together. `Fees` differs in the amount alone; as one generic type the two names would be
+// aliases, which are no values, and `&Minutes` could not be written.
 #[derive(Clone, Copy)]
 pub struct Minutes;
 

@@ -1,22 +1,16 @@
-ghost use Rattle.measures.specs.Meanings.{chosen};
+ghost use Rattle.std.specs.Prelude.{if◌then◌else◌};
 
 use crate::Measure;
+use steps::one_of::OneOf;
 use ways::StepFacts;
 
 // One of two measures; its figures are pairs, of which the chosen part counts.
-#[derive(Clone, Copy)]
-pub struct OneOf<A, B> {
-    pub first: bool,
-    pub a: A,
-    pub b: B,
-}
-
 impl<A: Measure, B: Measure> Measure for OneOf<A, B> {
     type Figure = (A::Figure, B::Figure);
 
-    ghost number = { λ m f. chosen m.first (A.Measure.number m.a f.0) (B.Measure.number m.b f.1) };
+    ghost number = { λ m f. if m.first then A.Measure.number m.a f.0 else B.Measure.number m.b f.1 };
 
-    ghost meaning = { λ m. chosen m.first (A.Measure.meaning m.a) (B.Measure.meaning m.b) };
+    ghost meaning = { λ m. if m.first then A.Measure.meaning m.a else B.Measure.meaning m.b };
 
     fn empty(&self) -> (A::Figure, B::Figure) {
         (self.a.empty(), self.b.empty())

@@ -1,17 +1,9 @@
--- The loop that sets one value after the other to 0, and what it leaves.
-use Rattle.std.proofs.Common.{◌≡◌, ℕ, zero, suc, ◌+◌, ◌<◌, ◌≤◌, refl, ap, ◌∙◌, ⊎_elim, add-one, arith}
+-- What is left where one value after the other is set to 0.
+use Rattle.std.proofs.Common.{◌≡◌, ℕ, zero, suc, ◌<◌, ◌≤◌, refl, ap, ◌∙◌, ⊎_elim, arith}
 use Rattle.std.proofs.lemmas.Bool.{cases_eq}
 use Rattle.policies.specs.Values.{cleared}
 
 module _ {C : Type 0} (put : C → ℕ → ℕ → C) where
-  pub cleared_none : (c : C) → c ≡ cleared put 0 c
-  unfolding cleared
-  cleared_none c = refl
-
-  pub cleared_more : (n : ℕ) (c : C) → put (cleared put n c) n 0 ≡ cleared put (n + 1) c
-  unfolding cleared
-  cleared_more n c = rw add-one
-
   pub cleared_rest : {R : Type 0} (rest : C → R) → ((c : C) (step v : ℕ) → rest (put c step v) ≡ rest c) → (n : ℕ) (c : C) → rest (cleared put n c) ≡ rest c
   unfolding cleared
   cleared_rest rest leaves zero c = refl

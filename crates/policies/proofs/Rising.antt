@@ -1,13 +1,24 @@
--- The loop that tests whether step numbers rise.
-use Rattle.std.proofs.Common.{◌≡◌, ℕ, ◌+◌, ◌<◌, ◌≤◌, false, ◌&&◌, List, length, get_or, drop, sym, ap, ◌∙◌}
-use Rattle.std.proofs.lemmas.Bool.{and_left, lt-leb, le-leb}
-use Rattle.std.proofs.lemmas.List.{at_drop_more}
+-- Step numbers rise where each is below the next, and else do not.
+use Rattle.std.proofs.Common.{◌≡◌, ℕ, zero, suc, ◌+◌, ◌<◌, ◌≤◌, Bool, true, false, ltb, List, [], ◌∷◌, length, sym, refl, subst, add-one, arith}
+use Rattle.std.proofs.lemmas.Bool.{and_left, and_right, and_from, le-leb, lt-leb, ltb-true, ltb-false}
+use Rattle.std.specs.List.{IsAllAdjacentAnswer}
 use Rattle.steps.specs.declared.ready.Ready.{Ready}
-use Rattle.steps.specs.Placing.{rises_from}
+use Rattle.steps.specs.Placing.{rising, rises_from, no_ready}
+use Rattle.policies.specs.Places.{entry}
 
-module _ (rs : List Ready) (floor i : ℕ) (d : Ready) (within : i < length rs) where
-  pub rises_stops : (get_or rs i d).step < floor → rises_from floor (drop i rs) ≡ false
-  rises_stops low = at_drop_more (rises_from floor) rs i d within ∙ and_left _ _ (lt-leb _ _ low)
+up : (rs : List Ready) (floor : ℕ) → (0 < length rs → floor ≤ (entry rs 0).step) → ((k : ℕ) → suc k < length rs → (entry rs k).step < (entry rs (suc k)).step) → rises_from floor rs ≡ true
+up [] floor low each = refl
+up (r ∷ rs) floor low each =
+    and_from _ _ (le-leb floor r.step (low (omega arith))) (up rs (r.step + 1) (λ h. let e = each 0 (omega arith) in omega arith) (λ k h. each (suc k) (omega arith)))
 
-  pub rises_more : floor ≤ (get_or rs i d).step → rises_from ((get_or rs i d).step + 1) (drop (i + 1) rs) ≡ rises_from floor (drop i rs)
-  rises_more high = sym (at_drop_more (rises_from floor) rs i d within ∙ ap (λ b. b && rises_from ((get_or rs i d).step + 1) (drop (i + 1) rs)) (le-leb _ _ high))
+not_up : (rs : List Ready) (floor k : ℕ) → suc k < length rs → (entry rs (suc k)).step ≤ (entry rs k).step → rises_from floor rs ≡ false
+not_up [] floor k h low = absurd (omega arith)
+not_up (r ∷ []) floor k h low = absurd (omega arith)
+not_up (r ∷ (s ∷ rs)) floor zero h low = and_right _ _ (and_left _ _ (lt-leb (r.step + 1) s.step (omega arith)))
+not_up (r ∷ (s ∷ rs)) floor (suc k) h low = and_right _ _ (not_up (s ∷ rs) (r.step + 1) k (omega arith) low)
+
+pub rising_answer : (rs : List Ready) (b : Bool) → IsAllAdjacentAnswer (λ (r s : Ready) c. c ≡ ltb r.step s.step) rs b → b ≡ rising rs
+rising_answer rs true each =
+    sym (up rs 0 (λ h. omega arith) (λ k h. subst (λ n. (entry rs k).step < (entry rs n).step) (add-one k) (ltb-true _ _ (sym (each k no_ready (omega arith))))))
+rising_answer rs false (k, h, fails) =
+    sym (not_up rs 0 k (omega arith) (subst (λ n. (entry rs n).step ≤ (entry rs k).step) (add-one k) (ltb-false _ _ (sym (fails no_ready)))))

@@ -1,18 +1,15 @@
 -- Why the places that are named lie inside the list.
-use Rattle.std.specs.Prelude.{◌≡◌, ℕ, suc, ◌<◌, Bool, true, false, cond, not, ◌||◌, List, [], ◌∷◌, length, nat_lt, refl}
-use Rattle.std.proofs.Common.{ap, ◌∙◌, arith}
-use Rattle.std.proofs.lemmas.Bool.{ltb-true, ltb-false, lt-ltb, le-ltb}
-use Rattle.steps.proofs.Clashes.{clash}
+use Rattle.std.specs.Prelude.{◌≡◌, ℕ, zero, suc, ◌<◌, Bool, true, false, cond, List, [], ◌∷◌, length, Some, None, nat_lt, refl}
+use Rattle.std.specs.List.{position, position_or_len}
+use Rattle.std.specs.Option.{unwrap_or}
+use Rattle.std.proofs.Common.{ap, inl, inr, arith}
+use Rattle.std.proofs.lemmas.Bool.{ltb-true, ltb-false, lt-ltb, le-ltb, both_ways, not_from_false, cases_lt}
+use Rattle.std.proofs.lemmas.List.Elements.{All-from_get_or}
+use Rattle.std.proofs.lemmas.List.Folds.{list_any_none}
+use Rattle.std.proofs.lemmas.List.Sums.{fails_before_first}
 use Rattle.steps.specs.declared.ready.Ready.{Ready}
-use Rattle.steps.specs.Placing.{Placing, rising}
-use Rattle.steps.specs.Tests.{any}
-use Rattle.policies.specs.Places.{first_of, unbeaten, best, in_order}
-
--- of a rule that says which of two entries comes before the other
-pub record Strict (beats : Ready → Ready → Bool) : Type 0 where
-  pub itself : (r : Ready) → beats r r ≡ false
-  pub through : (a b c : Ready) → beats a b ≡ true → beats b c ≡ true → beats a c ≡ true
-  pub level : (a b c : Ready) → beats a b ≡ true → beats c b ≡ false → beats a c ≡ true
+use Rattle.steps.specs.Placing.{Placing, rising, no_ready}
+use Rattle.policies.specs.Places.{Strict, entry, unbeaten, best, in_order}
 
 -- the lesser number comes first, or the greater
 pub by_less : (key : Ready → ℕ) → Strict (λ s r. nat_lt (key s) (key r))
@@ -29,69 +26,65 @@ by_more key = record {
   level = λ a b c p q. let x = ltb-true (key b) (key a) p in let y = ltb-false (key b) (key c) q in lt-ltb (key c) (key a) (omega arith);
 }
 
-first_inside : (p : Ready → Bool) (rs : List Ready) → any p rs ≡ true → first_of p rs < length rs
-first_inside p [] e = clash (cc)
-first_inside p (r ∷ rs) e = go (p r) e (first_inside p rs)
-  where
-    go : (b : Bool) → b || any p rs ≡ true → (any p rs ≡ true → first_of p rs < length rs) → cond b 0 (suc (first_of p rs)) < length (r ∷ rs)
-    go true e f = omega arith
-    go false e f = let i = f e in omega arith
+-- where an entry passes a test, the first that does is inside
+position_inside : (p : Ready → Bool) (rs : List Ready) (at : ℕ) → at < length rs → p (entry rs at) ≡ true → position_or_len p rs < length rs
+position_inside p rs at within passes =
+    elim (cases_lt at (position_or_len p rs)) [
+      | inl before ↦ absurd (both_ways _ (fails_before_first p rs at no_ready before) passes)
+      | inr high ↦ omega arith
+    ]
 
-any_there : (p : Ready → Bool) (rs : List Ready) → any p rs ≡ false → (q : Ready → Bool) → ((s : Ready) → q s ≡ true → p s ≡ true) → any q rs ≡ false
-any_there p [] e q f = refl
-any_there p (r ∷ rs) e q f = go (p r) refl e (q r) refl (λ e. any_there p rs e q f)
-  where
-    go : (b : Bool) → p r ≡ b → b || any p rs ≡ false → (c : Bool) → q r ≡ c → (any p rs ≡ false → any q rs ≡ false) → c || any q rs ≡ false
-    go true h e c g more = clash (cc)
-    go false h e true g more = let w = f r g in clash (cc)
-    go false h e false g more = more e
+pub none_before : (beats : Ready → Ready → Bool) (rs : List Ready) (at : ℕ) → ((k : ℕ) → k < length rs → beats (entry rs k) (entry rs at) ≡ false) → unbeaten beats rs (entry rs at) ≡ true
+none_before beats rs at alone =
+    not_from_false _ (list_any_none (λ s. beats s (entry rs at)) rs (All-from_get_or (λ s. beats s (entry rs at) ≡ false) rs no_ready alone))
 
 module _ (beats : Ready → Ready → Bool) (strict : Strict beats) where
-  -- an entry of the list that no entry comes before
+  -- an entry that none comes before
   record Best (rs : List Ready) : Type 0 where
-    one : Ready
-    among : (p : Ready → Bool) → p one ≡ true → any p rs ≡ true
-    alone : any (λ s. beats s one) rs ≡ false
-
-  only : (r : Ready) → Best (r ∷ [])
-  only r = record { one = r; among = λ p e. ap (λ b. b || false) e; alone = ap (λ b. b || false) (strict.itself r) }
+    at : ℕ
+    inside : at < length rs
+    alone : (k : ℕ) → k < length rs → beats (entry rs k) (entry rs at) ≡ false
 
   also : (r : Ready) (rs : List Ready) → Best rs → Best (r ∷ rs)
-  also r rs h = go (beats r h.one) refl
+  also r rs h = go (beats r (entry rs h.at)) refl
     where
-      later : (b : Bool) → b || true ≡ true
-      later true = refl
-      later false = refl
+      behind : beats r (entry rs h.at) ≡ true → (k : ℕ) → k < length rs → (b : Bool) → beats (entry rs k) r ≡ b → b ≡ false
+      behind e k l true f = absurd (both_ways _ (h.alone k l) (strict.through (entry rs k) r (entry rs h.at) f e))
+      behind e k l false f = refl
 
-      go : (b : Bool) → beats r h.one ≡ b → Best (r ∷ rs)
-      go true e = record {
-        one = r;
-        among = λ p f. ap (λ b. b || any p rs) f;
-        alone = ap (λ b. b || any (λ s. beats s r) rs) (strict.itself r) ∙ any_there (λ s. beats s h.one) rs h.alone (λ s. beats s r) (λ s f. strict.through s r h.one f e);
-      }
-      go false e = record {
-        one = h.one;
-        among = λ p f. ap (λ b. p r || b) (h.among p f) ∙ later (p r);
-        alone = ap (λ b. b || any (λ s. beats s h.one) rs) e ∙ h.alone;
-      }
+      first : beats r (entry rs h.at) ≡ true → (k : ℕ) → k < length (r ∷ rs) → beats (entry (r ∷ rs) k) r ≡ false
+      first e zero l = strict.itself r
+      first e (suc k) l = behind e k (omega arith) (beats (entry rs k) r) refl
+
+      later : beats r (entry rs h.at) ≡ false → (k : ℕ) → k < length (r ∷ rs) → beats (entry (r ∷ rs) k) (entry rs h.at) ≡ false
+      later e zero l = e
+      later e (suc k) l = h.alone k (omega arith)
+
+      go : (b : Bool) → beats r (entry rs h.at) ≡ b → Best (r ∷ rs)
+      go true e = record { at = 0; inside = omega arith; alone = first e }
+      go false e = record { at = suc h.at; inside = omega (arith, h.inside); alone = later e }
 
   best_there : (r : Ready) (rs : List Ready) → Best (r ∷ rs)
-  best_there r [] = only r
+  best_there r [] = record { at = 0; inside = omega arith; alone = λ k l. only k l }
+    where
+      only : (k : ℕ) → k < length (r ∷ []) → beats (entry (r ∷ []) k) r ≡ false
+      only zero l = strict.itself r
+      only (suc k) l = absurd (omega arith)
   best_there r (s ∷ rs) = also r (s ∷ rs) (best_there s rs)
 
   pub best_inside : (rs : List Ready) → 0 < length rs → best beats rs < length rs
   best_inside [] some = absurd (omega arith)
   best_inside (r ∷ rs) some =
       let h = best_there r rs in
-      first_inside (unbeaten beats (r ∷ rs)) (r ∷ rs) (h.among (unbeaten beats (r ∷ rs)) (ap not h.alone))
+      position_inside (unbeaten beats (r ∷ rs)) (r ∷ rs) h.at h.inside (none_before beats (r ∷ rs) h.at h.alone)
 
--- the first entry with a mark if there is one, else a place inside the list, is inside the list
-pub first_or_inside : (p : Ready → Bool) (other : ℕ) (rs : List Ready) → other < length rs → cond (any p rs) (first_of p rs) other < length rs
-first_or_inside p other rs h = go (any p rs) refl
+-- the first entry that passes a test if one does, else a place inside the list, is inside the list
+pub first_or_inside : (p : Ready → Bool) (other : ℕ) (rs : List Ready) → other < length rs → unwrap_or (position p rs) other < length rs
+first_or_inside p other rs h = go (nat_lt (position_or_len p rs) (length rs)) (position_or_len p rs) (ltb-true _ _)
   where
-    go : (b : Bool) → any p rs ≡ b → cond b (first_of p rs) other < length rs
-    go true e = first_inside p rs e
-    go false e = h
+    go : (b : Bool) (n : ℕ) → (b ≡ true → n < length rs) → unwrap_or (cond b (Some n) None) other < length rs
+    go true n f = f refl
+    go false n f = h
 
 -- what a rule means that names places inside the list, and 0 in the empty list
 abbrev pub placing : (rule : List Ready → ℕ) → ((rs : List Ready) → 0 < length rs → rule rs < length rs) → rule [] ≡ 0 → Placing

@@ -1,9 +1,10 @@
 -- What the policies mean.
-use Rattle.std.specs.Prelude.{ℕ, Bool, true, false, cond, not, List, ◌==◌, nat_lt, refl}
+use Rattle.std.specs.Prelude.{ℕ, Bool, not, List, ◌==◌, nat_lt, refl}
+use Rattle.std.specs.List.{position}
+use Rattle.std.specs.Option.{unwrap_or}
 use Rattle.steps.specs.declared.ready.Ready.{Ready}
 use Rattle.steps.specs.Placing.{Placing}
-use Rattle.steps.specs.Tests.{any}
-use Rattle.policies.specs.Places.{first_of, best}
+use Rattle.policies.specs.Places.{best}
 use Rattle.policies.specs.Found.{by_less, by_more, best_inside, first_or_inside, placing}
 use Rattle.policies.specs.Values.{value_or}
 
@@ -37,10 +38,5 @@ marked marks r = not (value_or 0 marks r.step == 0)
 
 abbrev pub rush_layer : List ℕ → Placing → Placing
 rush_layer marks below =
-    placing (λ rs. cond (any (marked marks) rs) (first_of (marked marks) rs) (below.place rs))
+    placing (λ rs. unwrap_or (position (marked marks) rs) (below.place rs))
     (λ rs some. first_or_inside (marked marks) (below.place rs) rs (below.inside rs some)) below.nothing
-
--- the first of two where a choice is made for it, else the second
-abbrev pub chosen : Bool → Placing → Placing → Placing
-chosen true a b = a
-chosen false a b = b

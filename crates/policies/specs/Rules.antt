@@ -1,12 +1,10 @@
 -- The rules of the policies, in words of the entries: what is so of the place that each names in a list with entries whose step
 -- numbers rise.
-use Rattle.std.specs.Prelude.{◌≡◌, ℕ, ◌<◌, ◌≤◌, Bool, true, false, List, length, slice_index_or}
+use Rattle.std.specs.Prelude.{◌≡◌, ℕ, ◌<◌, ◌≤◌, true, false, List, length}
 use Rattle.steps.specs.declared.ready.Ready.{Ready}
-use Rattle.steps.specs.Placing.{Placing, no_ready}
+use Rattle.steps.specs.Placing.{Placing}
+use Rattle.policies.specs.Places.{entry}
 use Rattle.policies.specs.Meanings.{rank, marked}
-
-abbrev pub entry : List Ready → ℕ → Ready
-entry rs k = slice_index_or rs k no_ready
 
 -- no tail is longer, and all before it are shorter
 pub record FirstLongest (rs : List Ready) (i : ℕ) : Type 0 where
@@ -22,8 +20,3 @@ pub record FirstRanked (ranks : List ℕ) (rs : List Ready) (i : ℕ) : Type 0 w
 pub record FirstMarked (marks : List ℕ) (below : Placing) (rs : List Ready) (i : ℕ) : Type 0 where
   pub some : (k : ℕ) → k < length rs → marked marks (entry rs k) ≡ true → (marked marks (entry rs i) ≡ true) × ((j : ℕ) → j < i → marked marks (entry rs j) ≡ false)
   pub none : ((k : ℕ) → k < length rs → marked marks (entry rs k) ≡ false) → i ≡ below.place rs
-
--- of a choice between two policies, the rule of the one that is chosen
-abbrev pub ByChoice : Bool → Type 0 → Type 0 → Type 0
-ByChoice true P Q = P
-ByChoice false P Q = Q

@@ -45,7 +45,7 @@ pub fn clear<C: Changeable>(policy: &mut C)
     ensures kept { C.rest policy.new ≡ C.rest policy.old }
     ensures after { policy.new ≡ cleared C.put kept_values policy.old }
 {
-    for step in 0..KEPT_VALUES {
-        let _ = policy.set(step as u16, 0);
+    for step in 0..KEPT_VALUES as u16 {
+        let _ = policy.set(step, 0);
     }
 }

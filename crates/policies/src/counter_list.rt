@@ -5,8 +5,9 @@ ghost use Rattle.policies.specs.Rules.{FirstRanked};
 ghost use Rattle.policies.specs.Changes.{put_value};
 ghost use Rattle.policies.specs.Kept.{put_same, put_second};
 
+use crate::places::first_best;
 use crate::values::Values;
-use crate::{Changeable, Policy, rises};
+use crate::{Changeable, Policy};
 use steps::ready::Ready;
 use steps::refusal::Refusal;
 
@@ -42,16 +43,7 @@ impl Policy for CounterList {
     ghost rule = { λ p rs i. FirstRanked p.ranks.values rs i };
 
     fn pick(&self, ready: &[Ready]) -> usize {
-        if !rises(ready) {
-            return 0;
-        }
-        let mut best = 0;
-        for (i, r) in ready.iter().enumerate() {
-            if self.rank(r) < self.rank(&ready[best]) {
-                best = i;
-            }
-        }
-        best
+        first_best(ready, |r, best| self.rank(r) < self.rank(best))
     }
 }
 
@@ -70,9 +62,9 @@ impl Changeable for CounterList {
 
     ghost leaves = { Prim.search rules };
 
-    ghost same = { λ p step. ap (λ vs. record { ranks = vs }) (put_same p.ranks step) };
+    ghost same = { λ p step. Prim.rw (put_same p.ranks step) };
 
-    ghost second = { λ p step v w. ap (λ vs. record { ranks = vs }) (put_second p.ranks step v w) };
+    ghost second = { λ p step v w. Prim.rw (put_second p.ranks step v w) };
 
     fn set(&mut self, step: u16, value: u16) -> Result<(), Refusal> {
         self.ranks.set(step, value)

@@ -11,6 +11,7 @@ mod changing;
 mod counter_list;
 mod longest_tail;
 mod one_of;
+mod places;
 mod rush_layer;
 mod sheet_order;
 mod values;
@@ -18,9 +19,9 @@ mod values;
 pub use changing::{Changeable, clear};
 pub use counter_list::CounterList;
 pub use longest_tail::LongestTail;
-pub use one_of::OneOf;
 pub use rush_layer::RushLayer;
 pub use sheet_order::SheetOrder;
+pub use steps::one_of::OneOf;
 pub use values::KEPT_VALUES;
 
 // A policy names a place, counted from 0, in a list of ready steps, and changes nothing by that. It means the place that it
@@ -35,19 +36,4 @@ pub trait Policy {
     fn pick(&self, ready: &[Ready]) -> usize
         ensures place { result ≡ (placing self.now).place ready.now }
         ensures rule { rising ready.now ≡ true → 0 < length ready.now → rule self.now ready.now result };
-}
-
-// Whether the step numbers rise.
-fn rises(ready: &[Ready]) -> bool
-    ensures { result ≡ rising ready.now }
-{
-    let mut floor = 0u32;
-    for r in ready {
-        let step = u32::from(r.step);
-        if step < floor {
-            return false;
-        }
-        floor = step + 1;
-    }
-    true
 }

@@ -1,7 +1,8 @@
 ghost use Rattle.policies.specs.Meanings.{longest_tail};
 ghost use Rattle.policies.specs.Rules.{FirstLongest};
 
-use crate::{Policy, rises};
+use crate::Policy;
+use crate::places::first_best;
 use steps::ready::Ready;
 
 // The longest tail first; among equals the lowest step.
@@ -14,15 +15,6 @@ impl Policy for LongestTail {
     ghost rule = { λ _ rs i. FirstLongest rs i };
 
     fn pick(&self, ready: &[Ready]) -> usize {
-        if !rises(ready) {
-            return 0;
-        }
-        let mut best = 0;
-        for (i, r) in ready.iter().enumerate() {
-            if r.tail > ready[best].tail {
-                best = i;
-            }
-        }
-        best
+        first_best(ready, |r, best| r.tail > best.tail)
     }
 }

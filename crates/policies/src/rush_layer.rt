@@ -5,8 +5,9 @@ ghost use Rattle.policies.specs.Rules.{FirstMarked};
 ghost use Rattle.policies.specs.Changes.{put_value};
 ghost use Rattle.policies.specs.Kept.{put_same, put_second};
 
+use crate::places::rises;
 use crate::values::Values;
-use crate::{Changeable, Policy, rises};
+use crate::{Changeable, Policy};
 use steps::ready::Ready;
 use steps::refusal::Refusal;
 
@@ -69,9 +70,9 @@ impl<P: Policy> Changeable for RushLayer<P> {
 
     ghost leaves = { Prim.search rules };
 
-    ghost same = { λ p step. ap (λ vs. record { marks = vs; below = p.below }) (put_same p.marks step) };
+    ghost same = { λ p step. Prim.rw (put_same p.marks step) };
 
-    ghost second = { λ p step v w. ap (λ vs. record { marks = vs; below = p.below }) (put_second p.marks step v w) };
+    ghost second = { λ p step v w. Prim.rw (put_second p.marks step v w) };
 
     fn set(&mut self, step: u16, value: u16) -> Result<(), Refusal> {
         self.marks.set(step, value)

@@ -3,12 +3,13 @@ use Rattle.std.proofs.Common.{◌≡◌, ℕ, zero, suc, ◌<◌, ◌≤◌, min
 use mathlib.Core.Path.{fun_ext}
 use mathlib.Core.List.{reverse_aux}
 use Rattle.std.proofs.lemmas.Bool.{lt-ltb, le-ltb, le-leb, lt-leb}
+use Rattle.std.proofs.lemmas.List.Sorted.{list_any-IsPermutation, IsPermutation-reverse}
+use Rattle.std.specs.List.{list_any}
 use Rattle.steps.specs.declared.row.Row.{Row}
 use Rattle.steps.specs.declared.step.Step.{Step}
 use Rattle.ways.specs.Paths.{tail}
 use Rattle.ways.specs.Ways.{Set}
 use Rattle.schedules.specs.Timetables.{All}
-use Rattle.std.specs.List.{list_any}
 use Rattle.schedules.specs.Dispatch.{State, moment, busy, begun, ended, over, fed, ready, unless_busy, free_from, free, readies, ready_list, earlier, next_end}
 use Rattle.schedules.specs.Greedy.{WorkConserving}
 use Rattle.schedules.specs.Rule.{keep_row, started}
@@ -40,24 +41,11 @@ module _ (st q : State) (same : Alike st q) where
   pub conserving_same : (benches : ℕ) (ss : List Step) (w : Set) → WorkConserving benches ss w st → WorkConserving benches ss w q
   conserving_same benches ss w h i b l r c = sym (same.busy_same b) ∙ h i b l (ready_same ss w i ∙ r) c
 
-any_reverse : (test : Row → Bool) (rs qs : List Row) → list_any test (reverse_aux rs qs) ≡ (list_any test rs || list_any test qs)
-any_reverse test [] qs = refl
-any_reverse test (r ∷ rs) qs = any_reverse test rs (r ∷ qs) ∙ go (test r) (list_any test rs) (list_any test qs)
-  where
-    go : (a b c : Bool) → (b || (a || c)) ≡ ((a || b) || c)
-    go true true c = refl
-    go true false c = refl
-    go false b c = refl
-
-any_back : (test : Row → Bool) (rs : List Row) → list_any test rs ≡ list_any test (reverse rs)
-any_back test rs = sym (any_reverse test rs [] ∙ go (list_any test rs))
-  where
-    go : (b : Bool) → (b || false) ≡ b
-    go true = refl
-    go false = refl
-
 pub reverse_alike : (t : ℕ) (rs : List Row) → Alike (moment t rs) (moment t (reverse rs))
-reverse_alike t rs = record { busy_same = λ b. any_back _ rs; begun_same = λ i. any_back _ rs; ended_same = λ i. any_back _ rs }
+reverse_alike t rs = record { busy_same = λ b. same _; begun_same = λ i. same _; ended_same = λ i. same _ }
+  where
+    same : (test : Row → Bool) → list_any test rs ≡ list_any test (reverse rs)
+    same test = list_any-IsPermutation test rs (reverse rs) (IsPermutation-reverse rs)
 
 any_same : (f g : Row → Bool) (rs : List Row) → All (λ r. f r ≡ g r) rs → list_any f rs ≡ list_any g rs
 any_same f g [] h = refl

@@ -1,11 +1,11 @@
 -- Dispatching: how a way is carried out on benches, turn by turn.
 use Rattle.std.specs.Prelude.{ℕ, zero, suc, ◌+◌, ◌*◌, min, Bool, true, false, not, ◌&&◌, ◌||◌, List, [], ◌∷◌, reverse, length, drop, Some, None, Option, ◌==◌, nat_le, nat_lt, slice_index_or}
+use Rattle.std.specs.List.{list_any}
 use Rattle.steps.specs.declared.ready.Ready.{Ready}
 use Rattle.steps.specs.declared.row.Row.{Row}
 use Rattle.steps.specs.declared.step.Step.{Step}
 use Rattle.steps.specs.Placing.{Placing, no_ready}
 use Rattle.steps.specs.Sheet.{step}
-use Rattle.std.specs.List.{list_any}
 use Rattle.ways.specs.Paths.{tail}
 use Rattle.ways.specs.Ways.{Set}
 use Rattle.schedules.specs.Timetables.{end_of}

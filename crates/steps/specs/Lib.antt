@@ -2,4 +2,3 @@ pub mod Limits
 pub mod Numbers
 pub mod Placing
 pub mod Sheet
-pub mod Tests

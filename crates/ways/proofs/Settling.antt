@@ -36,10 +36,6 @@ module _ {A : Type 0} (m : Measure A) where
         by And = refl
         by Or = refl
 
-    -- where all is settled
-    pub ended : (k : ℕ) → progress m ss 0 k ≡ least_of m ss k
-    ended k = cond-true (leb 0 k) _ _ (le-leb 0 k (omega arith))
-
     -- a step that is settled
     pub here : (i : ℕ) → progress m ss i i ≡ least_of m ss i
     here i = cond-true (leb i i) _ _ (le-leb i i (omega arith))

@@ -20,21 +20,22 @@ impl Values {
     pub fn value_or(&self, otherwise: u16, step: u16) -> u16
         ensures { result ≡ value_or otherwise self.now.values step }
     {
-        if (step as usize) < KEPT_VALUES {
-            self.values[step as usize]
-        } else {
-            otherwise
-        }
+        self.values
+            .get(usize::from(step))
+            .copied()
+            .unwrap_or(otherwise)
     }
 
     pub fn set(&mut self, step: u16, value: u16) -> Result<(), Refusal>
         ensures answer { told result ≡ set_answer step }
         ensures after { self.new ≡ (if nat_lt step kept_values then put_value self.old step value else self.old) }
     {
-        if step as usize >= KEPT_VALUES {
+        let step = usize::from(step);
+        if step >= KEPT_VALUES {
             return Err(Refusal::NoValueKept);
         }
-        self.values[step as usize] = value;
+        // the list after a write through `get_mut` is not known to be this one
+        self.values[step] = value;
         Ok(())
     }
 }

@@ -20,11 +20,6 @@ impl Issued {
             return Err(Refusal::TableTooShort);
         }
         fill(measure, self.steps(), table);
-        let first = table[0];
-        if first.found {
-            Ok(first.figure)
-        } else {
-            Err(Refusal::NoOpenWay)
-        }
+        table[0].least().ok_or(Refusal::NoOpenWay)
     }
 }

@@ -1,7 +1,7 @@
 -- No entry so far is marked.
 use Rattle.std.proofs.Common.{◌≡◌, ℕ, ◌<◌, false}
 use Rattle.policies.specs.Meanings.{marked}
-use Rattle.policies.specs.Rules.{entry}
+use Rattle.policies.specs.Places.{entry}
 use Rattle.policies.proofs.rush_layer.RushLayerPolicy.pick.Given as goal
 
 abbrev pub invariant-loop-i : goal.invariant-loop-i

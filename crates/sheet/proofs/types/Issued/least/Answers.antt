@@ -3,7 +3,7 @@ use Rattle.std.proofs.Common.{◌<◌, ◌≤◌, ltb, length, sym, refl, ap, �
 use Rattle.std.proofs.lemmas.Bool.{cond-true, cond-false, lt-ltb, le-ltb}
 use Rattle.least.specs.Entries.{Filled}
 use Rattle.sheet.specs.Least.{reported}
-use Rattle.sheet.proofs.Promises.{promised, first_found, first_none}
+use Rattle.sheet.proofs.Promises.{promised, first_least, told_least}
 use Rattle.sheet.proofs.types.Issued.least.Goals as goal
 
 pub returns-then-table-len : goal.returns-then-table-len
@@ -18,8 +18,8 @@ returns-then-table-len g c =
     (λ _. refl)
     (λ room. absurd (omega (arith, short, room)))
 
-pub returns-then-first : goal.returns-then-first
-returns-then-first g c =
+pub returns : goal.returns
+returns g c =
     let d = c.args.self.now in
     let m = g.M.Measure.meaning c.args.measure.now in
     let number = g.M.Measure.number c.args.measure.now in
@@ -29,25 +29,8 @@ returns-then-first g c =
     let some : 0 < length ss = d.sound.size.0 in
     let room : length ss ≤ length before = omega (arith, c.len.ensures.value, c.if-table-len.false) in
     let filled = subst (λ x. Filled m number x before after) c.steps.ensures.value c.fill.ensures in
-    let found = first_found _ m number ss before after c.index-table-0.result some (omega (arith, room, c.fill.auto.table)) c.index-table-0.is filled c.if-first.true in
+    let first = first_least _ m number ss before after _ c.least.result some (omega (arith, room, c.fill.auto.table)) c.index-table-0.is c.least.ensures filled in
     promised _ m number ss before after d.sound.descending some _
-    (ap reported (sym found) ∙ sym (cond-false (ltb (length before) (length ss)) _ _ (le-ltb _ _ room)))
-    (λ short. absurd (omega (arith, short, room)))
-    (λ _. filled)
-
-pub returns-else-first : goal.returns-else-first
-returns-else-first g c =
-    let d = c.args.self.now in
-    let m = g.M.Measure.meaning c.args.measure.now in
-    let number = g.M.Measure.number c.args.measure.now in
-    let ss = d.steps.items in
-    let before = c.args.table.now in
-    let after = c.fill.new.table in
-    let some : 0 < length ss = d.sound.size.0 in
-    let room : length ss ≤ length before = omega (arith, c.len.ensures.value, c.if-table-len.false) in
-    let filled = subst (λ x. Filled m number x before after) c.steps.ensures.value c.fill.ensures in
-    let missing = first_none _ m number ss before after c.index-table-0.result some (omega (arith, room, c.fill.auto.table)) c.index-table-0.is filled c.if-first.false in
-    promised _ m number ss before after d.sound.descending some _
-    (ap reported (sym missing) ∙ sym (cond-false (ltb (length before) (length ss)) _ _ (le-ltb _ _ room)))
+    (told_least _ m number ss before after _ _ c.ok_or.ensures.value ∙ ap reported first ∙ sym (cond-false (ltb (length before) (length ss)) _ _ (le-ltb _ _ room)))
     (λ short. absurd (omega (arith, short, room)))
     (λ _. filled)
