@@ -8,7 +8,7 @@ use Rattle.ways.proofs.Upper.{rule, root_in}
 use Rattle.plans.specs.Limited.{both, sheet_at, taken_at}
 use Rattle.plans.proofs.Limited.{length_at, join_at, target_at, descending_at}
 use Rattle.choice.specs.declared.settling.Entry.{Entry}
-use Rattle.choice.specs.Entries.{Settled, along}
+use Rattle.choice.specs.Entries.{Settled, is_step, along}
 use Rattle.choice.proofs.Picking.{feeder_ended}
 
 module _ (limit : ℕ) (ss : List Step) (lower_targets : Descending ss) where
@@ -24,7 +24,7 @@ module _ (limit : ℕ) (ss : List Step) (lower_targets : Descending ss) where
       let kept = chosen (step sheet t).join (eqb k (pick both t (suc t) (rest both sheet t))) in
       is_b
       ∙ ap₂ ◌&&◌ led
-      (ap₂ (λ j (e : Entry). chosen j (eqb k e.feeder)) (sym (join_at limit ss t)) (all t (omega arith)) ∙ feeder_ended both sheet (step sheet t).join t k)
+      (ap₂ (λ j (e : Entry). chosen j (is_step k e.feeder)) (sym (join_at limit ss t)) (all t (omega arith)) ∙ feeder_ended both sheet (step sheet t).join t k here)
       ∙ ap (λ v. taken both sheet 0 t && (v && kept)) (sym (lt-ltb k (length sheet) here))
       ∙ ap (λ v. taken both sheet 0 v && comes both sheet v k) (sym (target_at limit ss k))
       ∙ sym (rule both sheet (descending_at limit ss lower_targets) 0 k above (λ z. omega arith))

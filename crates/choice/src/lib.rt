@@ -120,6 +120,6 @@ fn comes_along(steps: &[Step], table: &[Entry], way: &[bool], k: usize) -> bool
     way[target]
         && match steps[target].join {
             Join::And => true,
-            Join::Or => table[target].feeder == k,
+            Join::Or => table[target].feeder == Some(k),
         }
 }

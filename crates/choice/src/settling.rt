@@ -16,12 +16,11 @@ use plans::Sums;
 use steps::limits::MAX_STEPS;
 use steps::step::{Join, Step};
 
-// The sums of a step, made from those of its feeders; and the feeder that an OR step takes. Where it takes none, `feeder` is
-// the number of steps.
+// The sums of a step, made from those of its feeders; and the feeder that an OR step takes, if it takes one.
 #[derive(Clone, Copy)]
 pub struct Entry {
     pub sums: Option<Sums>,
-    pub feeder: usize,
+    pub feeder: Option<usize>,
 }
 
 // Settles all steps.
@@ -32,7 +31,7 @@ pub fn settle_all(steps: &[Step], tails: &[u32], marks: &[bool], limit: u32) -> 
 {
     let mut table = [Entry {
         sums: None,
-        feeder: 0,
+        feeder: None,
     }; MAX_STEPS];
     begin(steps, limit, &mut table);
     for i in (0..steps.len()).rev() {
@@ -47,7 +46,7 @@ fn begin(steps: &[Step], limit: u32, table: &mut [Entry])
     ensures { Settled limit steps.now (length steps.now) table.new }
 {
     for i in 0..steps.len() {
-        table[i] = start(steps[i].join, steps.len());
+        table[i] = start(steps[i].join);
     }
 }
 
@@ -84,17 +83,14 @@ fn closed_at(steps: &[Step], tails: &[u32], marks: &[bool], limit: u32, i: usize
 }
 
 // What a step begins with, before its feeders are folded in.
-fn start(join: Join, count: usize) -> Entry
-    ensures { result ≡ start_entry join count }
+fn start(join: Join) -> Entry
+    ensures { result ≡ start_entry join }
 {
     let sums = match join {
         Join::And => Some(Sums { work: 0, long: 0 }),
         Join::Or => None,
     };
-    Entry {
-        sums,
-        feeder: count,
-    }
+    Entry { sums, feeder: None }
 }
 
 // The sums of a step into which all its feeders are folded.
@@ -126,7 +122,7 @@ fn fold(join: Join, number: usize, feeder: Option<Sums>, so_far: Entry) -> Entry
             if wins(feeder, so_far.sums) {
                 Entry {
                     sums: feeder,
-                    feeder: number,
+                    feeder: Some(number),
                 }
             } else {
                 so_far
