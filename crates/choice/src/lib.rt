@@ -1,7 +1,8 @@
 // The choice of the planned way: the limits of a sheet, the way taken at each, and the best of these ways for a crew.
 #![tactic(auto)]
 
-ghost use Rattle.std.specs.Prelude.{◌≡◌, ℕ, ◌<◌, ◌≤◌, false, length, take, drop, slice_index_or};
+ghost use Rattle.std.specs.Prelude.{◌≡◌, ℕ, ◌<◌, ◌≤◌, false, length, drop, slice_index_or};
+ghost use Rattle.arrayvec.specs.ArrayVec.{array_vec_len};
 ghost use Rattle.steps.specs.Limits.{max_benches};
 ghost use Rattle.steps.specs.Sheet.{step};
 ghost use Rattle.plans.specs.Limited.{at_limit, taken_at};
@@ -11,9 +12,10 @@ ghost use Rattle.paths.specs.Tails.{WithTails};
 ghost use Rattle.choice.specs.Tables.{Marked};
 ghost use Rattle.choice.specs.Entries.{Within, along};
 
-use crate::inserting::insert_if;
+use crate::inserting::insert;
 use crate::leaves::{fed_steps, sets_limit};
 use crate::settling::{Entry, settle_all};
+use arrayvec::ArrayVec;
 use plans::{Plan, Sums};
 use steps::limits::MAX_STEPS;
 use steps::step::{Join, Step};
@@ -22,22 +24,21 @@ mod inserting;
 mod leaves;
 mod settling;
 
-// Lists the different paths of the leaves that are not closed, ascending, in the front of `limits`; answers how many.
-pub fn limits(steps: &[Step], tails: &[u32], limits: &mut [u32]) -> usize
-    requires sheet { WithTails steps.now tails.now }
-    requires room { length steps.now ≤ length limits.old }
-    ensures front { take result limits.new ≡ limits_of steps.now }
-    ensures count { result ≡ length (limits_of steps.now) }
-    ensures few { result ≤ length steps.now }
-    ensures behind { drop result limits.new ≡ drop result limits.old }
+// The different paths of the leaves that are not closed, ascending.
+pub fn limits(steps: &[Step], tails: &[u32]) -> ArrayVec<u32, MAX_STEPS>
+    requires { WithTails steps.now tails.now }
+    ensures listed { result.items ≡ limits_of steps.now }
+    ensures few { array_vec_len result ≤ length steps.now }
 {
     let marks = fed_steps(steps);
-    let mut count = 0;
+    let mut limits = ArrayVec::new();
+    // by numbers, for which a step and its tail are asked; a chain over both tables would be no plainer
     for i in (0..steps.len()).rev() {
-        let wanted = sets_limit(steps, &marks, i);
-        count = insert_if(wanted, tails[i], limits, count);
+        if sets_limit(steps, &marks, i) {
+            insert(&mut limits, tails[i]);
+        }
     }
-    count
+    limits
 }
 
 // The minutes and the chain of the way taken at a limit, if one is.
@@ -57,10 +58,9 @@ pub fn planned(steps: &[Step], tails: &[u32], benches: u8) -> Option<Plan>
     ensures { result ≡ plan_of benches steps.now }
 {
     let marks = fed_steps(steps);
-    let mut all = [0; MAX_STEPS];
-    let count = limits(steps, tails, &mut all);
+    let limits = limits(steps, tails);
     let mut best = None;
-    for &limit in &all[..count] {
+    for &limit in limits.as_slice() {
         let sums = sums_at(steps, tails, &marks, limit);
         best = consider(benches, limit, sums, best);
     }
