@@ -1,4 +1,3 @@
-mod Marking
 mod Places
 mod Picking
 mod Amounts

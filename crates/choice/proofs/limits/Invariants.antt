@@ -4,4 +4,4 @@ use Rattle.plans.specs.Limits.{limits_from}
 use Rattle.choice.proofs.limits.Given as goal
 
 abbrev pub invariant-loop-i : goal.invariant-loop-i
-invariant-loop-i l = l.limits.items ≡ limits_from l.steps l.i (drop l.i l.steps)
+invariant-loop-i l = l.limits.items ≡ limits_from l.paths.steps.now l.i (drop l.i l.paths.steps.now)

@@ -6,5 +6,5 @@ use Rattle.choice.proofs.planned.Goals as goal
 
 pub consider-best-requires-clause-within : goal.consider-best-requires-clause-within
 consider-best-requires-clause-within c =
-    let sheet = c.requires.sheet in
-    subst Within (sym c.sums_at-sums.ensures) (least_within _ c.args.steps.now sheet.size.1 sheet.timed 0 sheet.size.0)
+    let paths = c.args.paths.now in
+    subst Within (sym c.at_limit-sums.ensures) (least_within _ paths.steps.now paths.size.1 paths.timed 0 paths.size.0)
