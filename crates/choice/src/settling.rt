@@ -46,12 +46,8 @@ fn settle(paths: &Paths, limit: u32, table: &mut [Entry], i: usize)
 {
     let steps = paths.steps;
     let closed = closed_at(paths, limit, i);
-    let so_far = table[i];
-    let sums = finish(steps[i].minutes, closed, so_far.sums);
-    table[i] = Entry {
-        sums,
-        feeder: so_far.feeder,
-    };
+    let sums = finish(steps[i].minutes, closed, table[i].sums);
+    table[i].sums = sums;
     if i > 0 {
         let target = steps[i].target as usize;
         table[target] = fold(steps[target].join, i, sums, table[target]);
