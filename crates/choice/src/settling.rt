@@ -96,18 +96,13 @@ fn fold(join: Join, number: usize, feeder: Option<Sums>, so_far: Entry) -> Entry
     match join {
         Join::And => Entry {
             sums: add(feeder, so_far.sums),
-            feeder: so_far.feeder,
+            ..so_far
         },
-        Join::Or => {
-            if wins(feeder, so_far.sums) {
-                Entry {
-                    sums: feeder,
-                    feeder: Some(number),
-                }
-            } else {
-                so_far
-            }
-        }
+        Join::Or if wins(feeder, so_far.sums) => Entry {
+            sums: feeder,
+            feeder: Some(number),
+        },
+        Join::Or => so_far,
     }
 }
 
