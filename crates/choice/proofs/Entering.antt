@@ -8,7 +8,7 @@ use Rattle.steps.specs.Limits.{max_steps}
 use Rattle.steps.specs.Sheet.{step, Timed}
 use Rattle.ways.specs.Least.{least_of}
 use Rattle.ways.specs.Paths.{tail}
-use Rattle.ways.specs.Progress.{started, folded, finished, progress}
+use Rattle.ways.specs.Progress.{folded, finished, progress}
 use Rattle.ways.proofs.Held.{hold_one, hold_two}
 use Rattle.ways.proofs.Settling.{begun, here, settled_least, later, folded_in, unchanged}
 use Rattle.plans.specs.declared.Sums.{Sums}
@@ -20,7 +20,7 @@ use Rattle.choice.specs.Entries.{blank_entry, Within, grown, start_entry, fold_e
 use Rattle.choice.proofs.Amounts.{least_within, progress_within}
 use Rattle.choice.proofs.Picking.{feeder_begun, feeder_here, feeder_later, feeder_in, feeder_unchanged}
 
-abbrev entry : Option Sums → ℕ → Entry
+abbrev entry : Option Sums → Option ℕ → Entry
 entry o n = record { sums = o; feeder = n }
 
 -- an OR step adds its minutes to the one feeder as an AND step does to all
@@ -39,12 +39,12 @@ module _ (limit : ℕ) (ss : List Step) where
   sheet = sheet_at limit ss
 
   -- the table as it is begun
-  pub entries_begun : (es : List Entry) → ((k : ℕ) → k < length ss → get_or es k blank_entry ≡ start_entry (step ss k).join (length ss)) → Settled limit ss (length ss) es
+  pub entries_begun : (es : List Entry) → ((k : ℕ) → k < length ss → get_or es k blank_entry ≡ start_entry (step ss k).join) → Settled limit ss (length ss) es
   entries_begun es all k h =
       let n = length_at limit ss in
       let l : k < length sheet = omega (arith, n) in
       all k h
-      ∙ ap₂ (λ j c. entry (started both j) c) (sym (join_at limit ss k)) (sym n)
+      ∙ ap start_entry (sym (join_at limit ss k))
       ∙ ap₂ entry (sym (begun both sheet k l)) (sym (feeder_begun both sheet (step sheet k).join k l))
       ∙ ap (λ c. entry_at sheet c k) n
 

@@ -1,5 +1,5 @@
 -- What stands in the table of a limit.
-use Rattle.std.specs.Prelude.{◌≡◌, ℕ, suc, ◌+◌, ◌*◌, ◌<◌, ◌≤◌, Bool, true, false, cond, ◌&&◌, List, length, drop, Some, None, Option, ◌==◌, nat_le, slice_index_or}
+use Rattle.std.specs.Prelude.{◌≡◌, ℕ, suc, ◌+◌, ◌*◌, ◌<◌, ◌≤◌, Bool, true, false, cond, ◌&&◌, List, length, drop, Some, None, Option, ◌==◌, nat_le, nat_lt, slice_index_or}
 use Rattle.std.specs.Option.{option_map}
 use Rattle.steps.specs.declared.step.Join.{Join}
 use Rattle.steps.specs.declared.step.Join.TheVariants.{And, Or}
@@ -16,7 +16,7 @@ use Rattle.choice.specs.declared.settling.Entry.{Entry}
 
 -- what stands for an entry past the end
 abbrev pub blank_entry : Entry
-blank_entry = record { sums = None; feeder = 0 }
+blank_entry = record { sums = None; feeder = None }
 
 -- no more minutes than all steps have, and no longer chain
 abbrev pub Within : Option Sums → Type 0
@@ -27,14 +27,14 @@ Within (Some r) = (r.long ≤ r.work) × (r.work ≤ max_steps * max_minutes)
 abbrev pub grown : Bool → ℕ → Option Sums → Option Sums
 grown closed minutes o = unless_closed closed (option_map (λ (r : Sums). record { work = r.work + minutes; long = r.long + minutes }) o)
 
--- before any feeder is folded in, of so many steps
-abbrev pub start_entry : Join → ℕ → Entry
-start_entry join count = record { sums = started both join; feeder = count }
+-- before any feeder is folded in
+abbrev pub start_entry : Join → Entry
+start_entry join = record { sums = started both join; feeder = None }
 
 -- the feeder that is taken, where the next one is no worse
-abbrev pub take_feeder : Join → Bool → ℕ → ℕ → ℕ
+abbrev pub take_feeder : Join → Bool → ℕ → Option ℕ → Option ℕ
 take_feeder And b next old = old
-take_feeder Or b next old = cond b next old
+take_feeder Or b next old = cond b (Some next) old
 
 -- with the feeder of this number
 abbrev pub fold_entry : Join → ℕ → Option Sums → Entry → Entry
@@ -44,9 +44,13 @@ fold_entry join next o e = record { sums = folded both join o e.sums; feeder = t
 abbrev pub picked : {A : Type 0} → Measure A → List Step → ℕ → ℕ → ℕ
 picked m ss i k = cond (nat_le i k) (pick m k (suc k) (rest m ss k)) (pick m k i (least_table m i (drop i ss)))
 
-abbrev pub feeder_at : {A : Type 0} → Measure A → List Step → Join → ℕ → ℕ → ℕ
-feeder_at m ss And i k = length ss
-feeder_at m ss Or i k = picked m ss i k
+-- the step of this number among so many; another number stands for none
+abbrev pub if_step : ℕ → ℕ → Option ℕ
+if_step count n = cond (nat_lt n count) (Some n) None
+
+abbrev pub feeder_at : {A : Type 0} → Measure A → List Step → Join → ℕ → ℕ → Option ℕ
+feeder_at m ss And i k = None
+feeder_at m ss Or i k = if_step (length ss) (picked m ss i k)
 
 -- the entry of step k where the steps from i on are settled
 abbrev pub entry_at : List Step → ℕ → ℕ → Entry
@@ -56,8 +60,13 @@ entry_at ss i k = record { sums = progress both ss i k; feeder = feeder_at both 
 abbrev pub Settled : ℕ → List Step → ℕ → List Entry → Type 0
 Settled limit ss i es = (k : ℕ) → k < length ss → slice_index_or es k blank_entry ≡ entry_at (sheet_at limit ss) i k
 
+-- whether it is the step k
+abbrev pub is_step : ℕ → Option ℕ → Bool
+is_step k None = false
+is_step k (Some n) = k == n
+
 -- whether step k comes along with its target
 abbrev pub along : List Step → List Entry → List Bool → ℕ → Bool
 along ss es way k =
     let t = (step ss k).target in
-    slice_index_or way t false && chosen (step ss t).join (k == (slice_index_or es t blank_entry).feeder)
+    slice_index_or way t false && chosen (step ss t).join (is_step k (slice_index_or es t blank_entry).feeder)

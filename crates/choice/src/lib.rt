@@ -1,19 +1,20 @@
 // The choice of the planned way: the limits of a sheet, the way taken at each, and the best of these ways for a crew.
 #![tactic(auto)]
 
-ghost use Rattle.std.specs.Prelude.{◌≡◌, ℕ, ◌<◌, ◌≤◌, false, length, take, drop, slice_index_or};
+ghost use Rattle.std.specs.Prelude.{◌≡◌, ℕ, ◌<◌, ◌≤◌, false, length, slice_index_or};
+ghost use Rattle.arrayvec.specs.ArrayVec.{array_vec_len};
 ghost use Rattle.steps.specs.Limits.{max_benches};
 ghost use Rattle.steps.specs.Sheet.{step};
 ghost use Rattle.plans.specs.Limited.{at_limit, taken_at};
 ghost use Rattle.plans.specs.Limits.{limits as limits_of};
 ghost use Rattle.plans.specs.Plan.{consider as better_plan, planned as plan_of};
-ghost use Rattle.paths.specs.Tails.{WithTails};
-ghost use Rattle.choice.specs.Tables.{Marked};
 ghost use Rattle.choice.specs.Entries.{Within, along};
 
-use crate::inserting::insert_if;
-use crate::leaves::{fed_steps, sets_limit};
+use crate::inserting::insert;
+use crate::leaves::sets_limit;
 use crate::settling::{Entry, settle_all};
+use arrayvec::ArrayVec;
+use paths::Paths;
 use plans::{Plan, Sums};
 use steps::limits::MAX_STEPS;
 use steps::step::{Join, Step};
@@ -22,73 +23,56 @@ mod inserting;
 mod leaves;
 mod settling;
 
-// Lists the different paths of the leaves that are not closed, ascending, in the front of `limits`; answers how many.
-pub fn limits(steps: &[Step], tails: &[u32], limits: &mut [u32]) -> usize
-    requires sheet { WithTails steps.now tails.now }
-    requires room { length steps.now ≤ length limits.old }
-    ensures front { take result limits.new ≡ limits_of steps.now }
-    ensures count { result ≡ length (limits_of steps.now) }
-    ensures few { result ≤ length steps.now }
-    ensures behind { drop result limits.new ≡ drop result limits.old }
+// The different paths of the leaves that are not closed, ascending.
+pub fn limits(paths: &Paths) -> ArrayVec<u32, MAX_STEPS>
+    ensures listed { result.items ≡ limits_of paths.now.steps.now }
+    ensures few { array_vec_len result ≤ length paths.now.steps.now }
 {
-    let marks = fed_steps(steps);
-    let mut count = 0;
-    for i in (0..steps.len()).rev() {
-        let wanted = sets_limit(steps, &marks, i);
-        count = insert_if(wanted, tails[i], limits, count);
+    let mut limits = ArrayVec::new();
+    // by numbers, for which a step and its tail are asked; a chain over both tables would be no plainer
+    for i in (0..paths.steps.len()).rev() {
+        if sets_limit(paths, i) {
+            insert(&mut limits, paths.tails[i]);
+        }
     }
-    count
+    limits
 }
 
 // The minutes and the chain of the way taken at a limit, if one is.
-pub fn at_limit(steps: &[Step], tails: &[u32], limit: u32) -> Option<Sums>
-    requires { WithTails steps.now tails.now }
-    ensures { result ≡ at_limit limit steps.now }
+pub fn at_limit(paths: &Paths, limit: u32) -> Option<Sums>
+    ensures { result ≡ at_limit limit paths.now.steps.now }
 {
-    let marks = fed_steps(steps);
-    sums_at(steps, tails, &marks, limit)
+    settle_all(paths, limit)[0].sums
 }
 
 // The least score among the ways taken at the limits, with its limit; of equal ones that of the smallest limit.
-pub fn planned(steps: &[Step], tails: &[u32], benches: u8) -> Option<Plan>
-    requires sheet { WithTails steps.now tails.now }
+pub fn planned(paths: &Paths, benches: u8) -> Option<Plan>
     requires some { 1 ≤ benches }
     requires few { benches ≤ max_benches }
-    ensures { result ≡ plan_of benches steps.now }
+    ensures { result ≡ plan_of benches paths.now.steps.now }
 {
-    let marks = fed_steps(steps);
-    let mut all = [0; MAX_STEPS];
-    let count = limits(steps, tails, &mut all);
+    let limits = limits(paths);
     let mut best = None;
-    for &limit in &all[..count] {
-        let sums = sums_at(steps, tails, &marks, limit);
+    for &limit in limits.as_slice() {
+        let sums = at_limit(paths, limit);
         best = consider(benches, limit, sums, best);
     }
     best
 }
 
-// Marks the members of the way taken at a limit, from step 0 on; what stands behind the steps is kept.
-pub fn members(steps: &[Step], tails: &[u32], limit: u32, way: &mut [bool])
-    requires sheet { WithTails steps.now tails.now }
-    requires room { length steps.now ≤ length way.old }
-    ensures members { (k : ℕ) → k < length steps.now → slice_index_or way.new k false ≡ taken_at limit steps.now k }
-    ensures behind { drop (length steps.now) way.new ≡ drop (length steps.now) way.old }
+// Marks the members of the way taken at a limit.
+pub fn members(paths: &Paths, limit: u32) -> [bool; MAX_STEPS]
+    ensures { (k : ℕ) → slice_index_or result k false ≡ taken_at limit paths.now.steps.now k }
 {
-    let marks = fed_steps(steps);
-    let table = settle_all(steps, tails, &marks, limit);
+    let steps = paths.steps;
+    let table = settle_all(paths, limit);
+    let mut way = [false; MAX_STEPS];
     way[0] = true;
+    // by numbers, since each mark is made from those before it
     for k in 1..steps.len() {
-        way[k] = comes_along(steps, &table, way, k);
+        way[k] = comes_along(steps, &table, &way, k);
     }
-}
-
-// What `at_limit` answers, where the steps with feeders are marked already.
-fn sums_at(steps: &[Step], tails: &[u32], marks: &[bool], limit: u32) -> Option<Sums>
-    requires sheet { WithTails steps.now tails.now }
-    requires marked { Marked steps.now marks.now }
-    ensures { result ≡ at_limit limit steps.now }
-{
-    settle_all(steps, tails, marks, limit)[0].sums
+    way
 }
 
 // The better of the best plan so far and that of a limit; the former if their scores tie.
@@ -120,6 +104,6 @@ fn comes_along(steps: &[Step], table: &[Entry], way: &[bool], k: usize) -> bool
     way[target]
         && match steps[target].join {
             Join::And => true,
-            Join::Or => table[target].feeder == k,
+            Join::Or => table[target].feeder == Some(k),
         }
 }

@@ -7,66 +7,47 @@ ghost use Rattle.ways.specs.Progress.{folded};
 ghost use Rattle.ways.specs.Taken.{wins as no_worse};
 ghost use Rattle.plans.specs.Leaves.{is_leaf};
 ghost use Rattle.plans.specs.Limited.{both};
-ghost use Rattle.paths.specs.Tails.{WithTails};
-ghost use Rattle.choice.specs.Tables.{Marked};
 ghost use Rattle.choice.specs.Entries.{Within, grown, fold_entry, start_entry, Settled};
 
 use crate::leaves::is_leaf;
+use paths::Paths;
 use plans::Sums;
+use std::array;
 use steps::limits::MAX_STEPS;
 use steps::step::{Join, Step};
 
-// The sums of a step, made from those of its feeders; and the feeder that an OR step takes. Where it takes none, `feeder` is
-// the number of steps.
+// The sums of a step, made from those of its feeders; and the feeder that an OR step takes, if it takes one.
 #[derive(Clone, Copy)]
 pub struct Entry {
     pub sums: Option<Sums>,
-    pub feeder: usize,
+    pub feeder: Option<usize>,
 }
 
 // Settles all steps.
-pub fn settle_all(steps: &[Step], tails: &[u32], marks: &[bool], limit: u32) -> [Entry; MAX_STEPS]
-    requires sheet { WithTails steps.now tails.now }
-    requires marked { Marked steps.now marks.now }
-    ensures { Settled limit steps.now 0 result }
+pub fn settle_all(paths: &Paths, limit: u32) -> [Entry; MAX_STEPS]
+    ensures { Settled limit paths.now.steps.now 0 result }
 {
-    let mut table = [Entry {
-        sums: None,
-        feeder: 0,
-    }; MAX_STEPS];
-    begin(steps, limit, &mut table);
+    let steps = paths.steps;
+    // no entry behind the steps is read
+    let mut table = array::from_fn(|i| start(steps.get(i).map_or(Join::Or, |step| step.join)));
+    // by numbers, since settling a step also writes the entry of its target
     for i in (0..steps.len()).rev() {
-        settle(steps, tails, marks, limit, &mut table, i);
+        settle(paths, limit, &mut table, i);
     }
     table
 }
 
-// Begins the entries of all steps.
-fn begin(steps: &[Step], limit: u32, table: &mut [Entry])
-    requires { length steps.now ≤ length table.old }
-    ensures { Settled limit steps.now (length steps.now) table.new }
-{
-    for i in 0..steps.len() {
-        table[i] = start(steps[i].join, steps.len());
-    }
-}
-
 // Settles step `i`, into which all its feeders are folded, and folds it into its target.
-fn settle(steps: &[Step], tails: &[u32], marks: &[bool], limit: u32, table: &mut [Entry], i: usize)
-    requires sheet { WithTails steps.now tails.now }
-    requires marked { Marked steps.now marks.now }
-    requires room { length steps.now ≤ length table.old }
-    requires within { i < length steps.now }
-    requires settled { Settled limit steps.now (i + 1) table.old }
-    ensures { Settled limit steps.now i table.new }
+fn settle(paths: &Paths, limit: u32, table: &mut [Entry], i: usize)
+    requires room { length paths.now.steps.now ≤ length table.old }
+    requires within { i < length paths.now.steps.now }
+    requires settled { Settled limit paths.now.steps.now (i + 1) table.old }
+    ensures { Settled limit paths.now.steps.now i table.new }
 {
-    let closed = closed_at(steps, tails, marks, limit, i);
-    let so_far = table[i];
-    let sums = finish(steps[i].minutes, closed, so_far.sums);
-    table[i] = Entry {
-        sums,
-        feeder: so_far.feeder,
-    };
+    let steps = paths.steps;
+    let closed = closed_at(paths, limit, i);
+    let sums = finish(steps[i].minutes, closed, table[i].sums);
+    table[i].sums = sums;
     if i > 0 {
         let target = steps[i].target as usize;
         table[target] = fold(steps[target].join, i, sums, table[target]);
@@ -74,27 +55,22 @@ fn settle(steps: &[Step], tails: &[u32], marks: &[bool], limit: u32, table: &mut
 }
 
 // Whether step `i` counts as closed at the limit: it is closed, or a leaf of a longer path.
-fn closed_at(steps: &[Step], tails: &[u32], marks: &[bool], limit: u32, i: usize) -> bool
-    requires sheet { WithTails steps.now tails.now }
-    requires marked { Marked steps.now marks.now }
-    requires within { i < length steps.now }
-    ensures { result ≡ ((step steps.now i).closed || (is_leaf steps.now i && nat_lt limit (tail steps.now i))) }
+fn closed_at(paths: &Paths, limit: u32, i: usize) -> bool
+    requires { i < length paths.now.steps.now }
+    ensures { result ≡ ((step paths.now.steps.now i).closed || (is_leaf paths.now.steps.now i && nat_lt limit (tail paths.now.steps.now i))) }
 {
-    steps[i].closed || is_leaf(steps, marks, i) && limit < tails[i]
+    paths.steps[i].closed || is_leaf(paths, i) && limit < paths.tails[i]
 }
 
 // What a step begins with, before its feeders are folded in.
-fn start(join: Join, count: usize) -> Entry
-    ensures { result ≡ start_entry join count }
+fn start(join: Join) -> Entry
+    ensures { result ≡ start_entry join }
 {
     let sums = match join {
         Join::And => Some(Sums { work: 0, long: 0 }),
         Join::Or => None,
     };
-    Entry {
-        sums,
-        feeder: count,
-    }
+    Entry { sums, feeder: None }
 }
 
 // The sums of a step into which all its feeders are folded.
@@ -120,18 +96,13 @@ fn fold(join: Join, number: usize, feeder: Option<Sums>, so_far: Entry) -> Entry
     match join {
         Join::And => Entry {
             sums: add(feeder, so_far.sums),
-            feeder: so_far.feeder,
+            ..so_far
         },
-        Join::Or => {
-            if wins(feeder, so_far.sums) {
-                Entry {
-                    sums: feeder,
-                    feeder: number,
-                }
-            } else {
-                so_far
-            }
-        }
+        Join::Or if wins(feeder, so_far.sums) => Entry {
+            sums: feeder,
+            feeder: Some(number),
+        },
+        Join::Or => so_far,
     }
 }
 

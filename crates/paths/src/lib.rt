@@ -1,38 +1,46 @@
-// Tails: the minutes from a step to the hand-over.
+// The paths of a sheet's steps: the tail of each, its minutes and those of all that it leads to, and which steps are led into.
 #![tactic(auto)]
 
-ghost use Rattle.std.specs.Prelude.{◌≡◌, ℕ, ◌<◌, ◌≤◌, ◌++◌, length, drop, slice_index};
-ghost use Rattle.steps.specs.Sheet.{Descending, Timed};
-ghost use Rattle.ways.specs.Paths.{tail};
+ghost use Rattle.std.specs.Prelude.{◌≡◌, length};
+ghost use Rattle.steps.specs.Limits.{max_steps};
+ghost use Rattle.steps.specs.Sheet.{Sized, Descending, Timed};
+ghost use Rattle.paths.specs.Tails.{IsTails};
+ghost use Rattle.paths.specs.Feeders.{Marked};
 
+use crate::feeders::fed_steps;
+use crate::tails::tails_of;
+use steps::limits::MAX_STEPS;
 use steps::step::Step;
 
-// The minutes of a step and of all that it leads to, up to step 0. Targets have lower numbers, so it ends.
-pub fn tail(steps: &[Step], i: usize) -> u32
-    requires within { i < length steps.now }
-    requires few { length steps.now < 65536 }
-    requires descending { Descending steps.now }
-    requires timed { Timed steps.now }
-    ensures { result ≡ tail steps.now i }
-{
-    let minutes = u32::from(steps[i].minutes);
-    if i == 0 {
-        minutes
-    } else {
-        minutes + tail(steps, steps[i].target as usize)
-    }
+mod feeders;
+mod tails;
+
+pub use tails::{fill_tails, tail};
+
+// The steps of a sheet with the tail of each, and with a mark on each that another leads into.
+#[derive(Drop)]
+pub struct Paths<'a> {
+    pub steps: &'a [Step],
+    pub tails: [u32; MAX_STEPS],
+    pub fed: [bool; MAX_STEPS],
+    ghost size: { Sized max_steps steps.now },
+    ghost descending: { Descending steps.now },
+    ghost timed: { Timed steps.now },
+    ghost tailed: { IsTails steps.now tails },
+    ghost marked: { Marked steps.now fed },
 }
 
-// Writes the tail of each step into a table; what stands behind is kept.
-pub fn fill_tails(steps: &[Step], tails: &mut [u32])
-    requires room { length steps.now ≤ length tails.old }
-    requires few { length steps.now < 65536 }
-    requires descending { Descending steps.now }
-    requires timed { Timed steps.now }
-    ensures tails { (i : ℕ) → i < length steps.now → slice_index tails.new i ≡ tail steps.now i }
-    ensures kept { drop (length steps.now) tails.new ≡ drop (length steps.now) tails.old }
-{
-    for i in 0..steps.len() {
-        tails[i] = tail(steps, i);
+impl<'a> Paths<'a> {
+    pub fn new(steps: &'a [Step]) -> Paths<'a>
+        requires size { Sized max_steps steps.now }
+        requires descending { Descending steps.now }
+        requires timed { Timed steps.now }
+        ensures { result.steps.now ≡ steps.now }
+    {
+        Paths {
+            steps,
+            tails: tails_of(steps),
+            fed: fed_steps(steps),
+        }
     }
 }

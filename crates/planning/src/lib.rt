@@ -8,9 +8,8 @@ ghost use Rattle.planning.specs.Planning.{plan_of, rows_of, written};
 
 use choice::{members, planned};
 use dispatch::dispatch;
-use paths::fill_tails;
+use paths::Paths;
 use policies::Policy;
-use steps::limits::MAX_STEPS;
 use steps::row::Row;
 use steps::step::Step;
 
@@ -35,12 +34,10 @@ pub fn make_plan<P: Policy>(
     ensures answer { result ≡ plan_of (P.Policy.placing policy.now) benches steps.now }
     ensures rows { rows.new ≡ written (rows_of (P.Policy.placing policy.now) benches steps.now) rows.old }
 {
-    let mut tails = [0; MAX_STEPS];
-    fill_tails(steps, &mut tails);
-    let best = planned(steps, &tails, benches)?;
-    let mut way = [false; MAX_STEPS];
-    members(steps, &tails, best.limit, &mut way);
-    let made = dispatch(steps, &tails, &way, benches, policy, rows);
+    let paths = Paths::new(steps);
+    let best = planned(&paths, benches)?;
+    let way = members(&paths, best.limit);
+    let made = dispatch(steps, &paths.tails, &way, benches, policy, rows);
     Some(Plan {
         score: best.score,
         finish: made.finish,

@@ -75,7 +75,7 @@ insert_length x (y ∷ ys) = go (order x y) (insert_length x ys)
     go (same q) r = omega arith
     go (more q) r = omega arith
 
-ascends : (sheet : List Step) (j : ℕ) (ss : List Step) → Ascending (limits_from sheet j ss)
+pub ascends : (sheet : List Step) (j : ℕ) (ss : List Step) → Ascending (limits_from sheet j ss)
 ascends sheet j [] = tt
 ascends sheet j (s ∷ ss) = go (leaf j s ss && not s.closed) (ascends sheet (suc j) ss)
   where

@@ -1,30 +1,27 @@
 -- The marks are the planned way, so what is dispatched is its timetable.
-use Rattle.std.proofs.Common.{◌≡◌, ◌++◌, length, take, drop, Some, sym, ap, ◌∙◌, subst, ap₂, arith}
+use Rattle.std.proofs.Common.{◌≡◌, ◌++◌, length, take, drop, Some, sym, ap, ◌∙◌, subst, ap₂, rules}
 use Rattle.std.specs.Option.{option_map}
 use Rattle.std.proofs.lemmas.List.{take-append-drop}
-use Rattle.steps.specs.Limits.{max_steps}
 use Rattle.ways.specs.Ways.{Way}
 use Rattle.plans.specs.Plan.{planned, planned_way}
 use Rattle.schedules.specs.Dispatch.{timetable, finish}
+use Rattle.paths.specs.Tails.{IsTails}
 use Rattle.planning.specs.Planning.{chosen_plan, chosen_rows, or_no_rows, written}
-use Rattle.planning.proofs.Members.{marks_way, planned_is_way}
+use Rattle.planning.proofs.Members.{marks_taken, planned_is_way}
 use Rattle.planning.proofs.make_plan.Goals as goal
 
-pub dispatch-made-requires : goal.dispatch-made-requires
-dispatch-made-requires g c =
+pub dispatch-made-requires-clause-inputs : goal.dispatch-made-requires-clause-inputs
+dispatch-made-requires-clause-inputs g c =
     let ss = c.args.steps.now in
+    let paths = c.new-paths.result in
     let best = c.in_ok-best.best in
     let sheet = c.requires.sheet in
-    let way = planned_is_way c.args.benches ss sheet.descending best (sym c.in_ok-best.ensures) in
-    let marks = marks_way max_steps ss (planned_way ss best) c.members.new.way way c.members.ensures.members c.members.ensures.behind in
+    let is : planned c.args.benches ss ≡ Some best = ap (planned c.args.benches) (sym c.new-paths.ensures) ∙ sym c.in_ok-best.ensures in
+    let marks = marks_taken best.limit paths.steps.now ss c.members-way.result c.new-paths.ensures c.members-way.ensures in
     record {
-      inputs = record {
-        sheet = record { size = sheet.size; descending = sheet.descending; timed = sheet.timed; room = omega (arith, c.fill_tails.auto.tails, sheet.size.1); each = c.fill_tails.ensures.tails };
-        marked = omega (arith, c.members.auto.way, sheet.size.1);
-        way = subst (Way ss) (sym marks) way;
-      };
-      crewed = omega (arith, sheet.crewed.0);
-      room = c.requires.room;
+      sheet = record { size = sheet.size; descending = sheet.descending; timed = sheet.timed; room = search rules; each = subst (λ xs. IsTails xs paths.tails) c.new-paths.ensures paths.tailed };
+      marked = search rules;
+      way = subst (Way ss) (sym marks) (planned_is_way c.args.benches ss sheet.descending best is);
     }
 
 pub returns : goal.returns
@@ -33,9 +30,8 @@ returns g c =
     let benches = c.args.benches in
     let p = g.P.Policy.placing c.args.policy.now in
     let best = c.in_ok-best.best in
-    let is : planned benches ss ≡ Some best = sym c.in_ok-best.ensures in
-    let way = planned_is_way benches ss c.requires.sheet.descending best is in
-    let marks = marks_way max_steps ss (planned_way ss best) c.members.new.way way c.members.ensures.members c.members.ensures.behind in
+    let is : planned benches ss ≡ Some best = ap (planned benches) (sym c.new-paths.ensures) ∙ sym c.in_ok-best.ensures in
+    let marks = marks_taken best.limit c.new-paths.result.steps.now ss c.members-way.result c.new-paths.ensures c.members-way.ensures in
     let made = c.dispatch-made.ensures in
     let t = c.dispatch-made.result in
     let before = c.args.rows.now in

@@ -1,30 +1,18 @@
--- A number that is there is kept, and a new one is put in its place.
-use Rattle.std.proofs.Common.{◌<◌, get_or, refl, arith}
-use Rattle.choice.proofs.Places.{kept, new, new_behind}
+-- A number that is found is kept, and another goes to its place.
+use Rattle.std.proofs.Common.{Ok, Err, ◌∙◌, subst}
+use Rattle.std.specs.List.Sorted.{IsBinarySearchResult}
+use Rattle.std.specs.Ordering.{nat_cmp}
+use Rattle.choice.proofs.Places.{inserted}
 use Rattle.choice.proofs.inserting.insert.Goals as goal
-use Rattle.choice.proofs.inserting.insert.Goals.{else-at-count-via-then-at-count+else-list-at, else-at-count-via-else-at-count}
 
-pub returns-then-list-at : goal.returns-then-list-at
-returns-then-list-at c = record {
-  front = kept c.args.x c.args.list.now c.place-at.result c.args.count c.requires c.place-at.ensures.below c.if-at-count.true c.if-list-at.true;
-  behind = refl;
-  least = omega arith;
-  most = omega arith;
-}
-
-pub returns : goal.returns
-returns c =
+pub returns-in-Err : goal.returns-in-Err
+returns-in-Err g c =
     let x = c.args.x in
-    let xs = c.args.list.now in
-    let p = c.place-at.result in
-    let n = c.args.count in
-    let above : p < n → x < get_or xs p 0 = λ h. elim c.else-at-count.branch [
-      | else-at-count-via-then-at-count+else-list-at w ↦ omega (arith, w.if-list-at.false, c.place-at.ensures.there h)
-      | else-at-count-via-else-at-count w ↦ omega (arith, h, w.if-at-count.false)
-    ] in
-    record {
-      front = new x xs p n c.requires c.place-at.ensures.below c.place-at.ensures.within above c.copy_within.new.self c.copy_within.ensures.after;
-      behind = new_behind x xs p n c.requires c.place-at.ensures.below c.place-at.ensures.within c.copy_within.new.self c.copy_within.ensures.after;
-      least = omega arith;
-      most = omega arith;
-    }
+    let searched = subst (λ ys. IsBinarySearchResult (λ y. nat_cmp y x) ys (Err c.in-Err.place)) c.as_slice.ensures.value c.in-Err.ensures.position in
+    c.insert.ensures.items ∙ inserted x c.args.list.now.items c.requires.ascending (Err c.in-Err.place) searched
+
+pub returns-in_default : goal.returns-in_default
+returns-in_default g c =
+    let x = c.args.x in
+    let searched = subst (λ ys. IsBinarySearchResult (λ y. nat_cmp y x) ys (Ok c.in_default.field-0)) c.as_slice.ensures.value c.in_default.ensures.position in
+    inserted x c.args.list.now.items c.requires.ascending (Ok c.in_default.field-0) searched

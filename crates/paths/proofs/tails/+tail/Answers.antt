@@ -4,7 +4,7 @@ use Rattle.steps.specs.Limits.{max_minutes}
 use Rattle.ways.specs.Paths.{tail}
 use Rattle.plans.proofs.Bounds.{tail_most}
 use Rattle.plans.proofs.Chains.{tails_right}
-use Rattle.paths.proofs.+tail.Goals as goal
+use Rattle.paths.proofs.tails.+tail.Goals as goal
 
 further : (t : _) (c : goal.After-tail t) → c.from-minutes.result + c.tail.result ≡ tail c.args.steps.now c.args.i
 further t c =

@@ -1,7 +1,7 @@
 -- One tail more is written, and none behind them.
 use Rattle.std.proofs.Common.{◌<◌, ◌≢◌, length, ◌∙◌, arith, below_more}
 use Rattle.std.proofs.lemmas.List.{drop-set-lt, get_or-set_same, get_or-set_other}
-use Rattle.paths.proofs.fill_tails.Goals as goal
+use Rattle.paths.proofs.tails.fill_tails.Goals as goal
 
 pub loop-i-preserved : goal.loop-i-preserved
 loop-i-preserved c =

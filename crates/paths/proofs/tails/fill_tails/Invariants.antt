@@ -1,7 +1,7 @@
 -- The tails of the first steps are there.
 use Rattle.std.proofs.Common.{◌≡◌, ℕ, ◌<◌, length, get_or, drop}
 use Rattle.ways.specs.Paths.{tail}
-use Rattle.paths.proofs.fill_tails.Given as goal
+use Rattle.paths.proofs.tails.fill_tails.Given as goal
 
 abbrev pub invariant-loop-i : goal.invariant-loop-i
 invariant-loop-i l =

@@ -1,6 +1,0 @@
--- The numbers so far are less.
-use Rattle.std.proofs.Common.{ℕ, ◌<◌, get_or}
-use Rattle.choice.proofs.inserting.place.Given as goal
-
-abbrev pub invariant-loop-i : goal.invariant-loop-i
-invariant-loop-i l = (k : ℕ) → k < l.i → get_or l.list k 0 < l.x
