@@ -24,46 +24,40 @@ pub struct Plan {
 }
 
 // Leaves are the steps of join AND without feeders; the limits are the paths of those that are not closed, ascending.
-pub fn limits_stand() -> u8
+pub fn limits_stand()
     ensures leaves { LeavesRight }
     ensures limits { LimitsRight }
 {
-    0
 }
 
 // A tail adds up the minutes along the targets, and the chain of a way is the greatest path of a leaf on it.
-pub fn chains_stand() -> u8
+pub fn chains_stand()
     ensures tails { TailsRight }
     ensures chains { ChainsRight }
 {
-    0
 }
 
 // The way taken at a limit is the open way of the fewest minutes that has its chain within it.
-pub fn limited_stands() -> u8
+pub fn limited_stands()
     ensures { TakenRight }
 {
-    0
 }
 
 // The planned way is open, and no open way has a lower score; there is one exactly if a way is open.
-pub fn plans_stand() -> u8
+pub fn plans_stand()
     ensures { PlannedRight }
 {
-    0
 }
 
 // The planned way is the one way that keeps the rule.
-pub fn rule_stands() -> u8
+pub fn rule_stands()
     ensures keeps { PlannedKeeps }
     ensures only { PlannedOnly }
 {
-    0
 }
 
 // The planned ways of small sheets.
-pub fn cases_stand() -> u8
+pub fn cases_stand()
     ensures { CasesRight }
 {
-    0
 }

@@ -4,26 +4,23 @@
 ghost use Rattle.schedules.specs.Theorems.{DispatchValid, GreedyBound, DispatchBound, LowerBounds, FirstEndsLast, DispatchMeetsRule, RuleUnique};
 
 // Whatever the policy, dispatching gives a valid timetable.
-pub fn timetables_stand() -> u8
+pub fn timetables_stand()
     ensures { DispatchValid }
 {
-    0
 }
 
 // How late a timetable ends, at most and at least.
-pub fn bounds_stand() -> u8
+pub fn bounds_stand()
     ensures greedy { GreedyBound }
     ensures most { DispatchBound }
     ensures least { LowerBounds }
     ensures last { FirstEndsLast }
 {
-    0
 }
 
 // Dispatching meets the rule that says what a dispatched timetable is, and nothing else does.
-pub fn rule_stands() -> u8
+pub fn rule_stands()
     ensures met { DispatchMeetsRule }
     ensures unique { RuleUnique }
 {
-    0
 }
