@@ -42,5 +42,4 @@ pub trait Measure {
 // On every sheet the sums of the three measures never stop.
 pub fn sums_stand()
     ensures { SumsPlain }
-{
-}
+{}

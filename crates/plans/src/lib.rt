@@ -27,37 +27,31 @@ pub struct Plan {
 pub fn limits_stand()
     ensures leaves { LeavesRight }
     ensures limits { LimitsRight }
-{
-}
+{}
 
 // A tail adds up the minutes along the targets, and the chain of a way is the greatest path of a leaf on it.
 pub fn chains_stand()
     ensures tails { TailsRight }
     ensures chains { ChainsRight }
-{
-}
+{}
 
 // The way taken at a limit is the open way of the fewest minutes that has its chain within it.
 pub fn limited_stands()
     ensures { TakenRight }
-{
-}
+{}
 
 // The planned way is open, and no open way has a lower score; there is one exactly if a way is open.
 pub fn plans_stand()
     ensures { PlannedRight }
-{
-}
+{}
 
 // The planned way is the one way that keeps the rule.
 pub fn rule_stands()
     ensures keeps { PlannedKeeps }
     ensures only { PlannedOnly }
-{
-}
+{}
 
 // The planned ways of small sheets.
 pub fn cases_stand()
     ensures { CasesRight }
-{
-}
+{}

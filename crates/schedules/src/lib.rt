@@ -6,8 +6,7 @@ ghost use Rattle.schedules.specs.Theorems.{DispatchValid, GreedyBound, DispatchB
 // Whatever the policy, dispatching gives a valid timetable.
 pub fn timetables_stand()
     ensures { DispatchValid }
-{
-}
+{}
 
 // How late a timetable ends, at most and at least.
 pub fn bounds_stand()
@@ -15,12 +14,10 @@ pub fn bounds_stand()
     ensures most { DispatchBound }
     ensures least { LowerBounds }
     ensures last { FirstEndsLast }
-{
-}
+{}
 
 // Dispatching meets the rule that says what a dispatched timetable is, and nothing else does.
 pub fn rule_stands()
     ensures met { DispatchMeetsRule }
     ensures unique { RuleUnique }
-{
-}
+{}
