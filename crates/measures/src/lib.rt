@@ -7,14 +7,10 @@ ghost use Rattle.measures.specs.Plain.{SumsPlain};
 
 use ways::StepFacts;
 
-mod chain;
-mod fees;
-mod minutes;
+mod counter;
 mod one_of;
 
-pub use chain::Chain;
-pub use fees::Fees;
-pub use minutes::Minutes;
+pub use counter::CounterMeasure::{self, Chain, Fees, Minutes};
 pub use steps::one_of::OneOf;
 
 // A measure rates ways by figures, each of which stands for a number. Its meaning is its rules on these numbers, with their
