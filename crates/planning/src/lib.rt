@@ -37,7 +37,7 @@ pub fn make_plan<P: Policy>(
     let paths = Paths::new(steps);
     let best = planned(&paths, benches)?;
     let way = members(&paths, best.limit);
-    let made = dispatch(steps, &paths.tails, &way, benches, policy, rows);
+    let made = dispatch(&paths, &way, benches, policy, rows);
     Some(Plan {
         score: best.score,
         finish: made.finish,

@@ -29,12 +29,12 @@ fn may_begin(on_way: bool, end: Option<u32>, waits: bool) -> bool
 impl<'a> Job<'a> {
     // Marks the steps that wait for a feeder on the way which has not ended.
     fn waiting(&self, run: &Run) -> [bool; MAX_STEPS]
-        ensures { (i : ℕ) → i < length self.now.steps.now → slice_index_or result i false ≡ not (fed (members self.now.way.now) (done_by run.now.time run.now.ends) i (suc i) (drop (suc i) self.now.steps.now)) }
+        ensures { (i : ℕ) → i < length self.now.paths.now.steps.now → slice_index_or result i false ≡ not (fed (members self.now.way.now) (done_by run.now.time run.now.ends) i (suc i) (drop (suc i) self.now.paths.now.steps.now)) }
     {
         let mut waiting = [false; MAX_STEPS];
-        for k in (1..self.steps.len()).rev() {
+        for k in (1..self.paths.steps.len()).rev() {
             if is_pending(self.way[k], run.ends[k], run.time) {
-                waiting[self.steps[k].target as usize] = true;
+                waiting[self.paths.steps[k].target as usize] = true;
             }
         }
         waiting
@@ -42,16 +42,16 @@ impl<'a> Job<'a> {
 
     // The steps that are ready, ascending.
     pub(super) fn ready(&self, run: &Run) -> ArrayVec<Ready, MAX_STEPS>
-        ensures { result.items ≡ ready_by self.now.steps.now self.now.tails.now self.now.way.now run.now.time run.now.ends }
+        ensures { result.items ≡ ready_by self.now.paths.now.steps.now self.now.paths.now.tails self.now.way.now run.now.time run.now.ends }
     {
         let waiting = self.waiting(run);
         let mut ready = ArrayVec::new();
-        for (i, step) in self.steps.iter().enumerate() {
+        for (i, step) in self.paths.steps.iter().enumerate() {
             if may_begin(self.way[i], run.ends[i], waiting[i]) {
                 ready.push(Ready {
                     step: i as u16,
                     minutes: step.minutes,
-                    tail: self.tails[i],
+                    tail: self.paths.tails[i],
                 });
             }
         }

@@ -4,7 +4,6 @@ ghost use Rattle.steps.specs.Limits.{max_steps, max_minutes};
 ghost use Rattle.ways.specs.Ways.{Way};
 ghost use Rattle.schedules.specs.Dispatch.{moment, begun, free, turn, empty_state, final};
 ghost use Rattle.schedules.specs.Greedy.{Greedy};
-ghost use Rattle.dispatch.specs.Inputs.{Inputs};
 ghost use Rattle.dispatch.specs.Members.{members};
 ghost use Rattle.dispatch.specs.Tracking.{ready_by};
 ghost use Rattle.dispatch.specs.Promise.{Dispatches};
@@ -13,11 +12,11 @@ ghost use Rattle.dispatch.specs.Running.{state, Tracked, chosen, next_row};
 use super::Job;
 use super::looking::{lowest_free, next_end};
 use crate::run::Run;
+use paths::Paths;
 use policies::Policy;
 use steps::limits::MAX_STEPS;
 use steps::ready::Ready;
 use steps::row::Row;
-use steps::step::Step;
 
 // What the timetable of a way comes to: when its step 0 ends, and the number of its rows.
 #[derive(Clone, Copy, PartialEq, Eq, Debug)]
@@ -45,7 +44,7 @@ fn begin(run: &mut Run, rows: &mut [Row], row: Row)
 impl<'a> Job<'a> {
     // The ready step that the policy names; it is asked only where one is ready.
     fn choose<P: Policy>(&self, policy: &P, run: &Run) -> Option<Ready>
-        ensures { result ≡ chosen (P.Policy.placing policy.now) (ready_by self.now.steps.now self.now.tails.now self.now.way.now run.now.time run.now.ends) }
+        ensures { result ≡ chosen (P.Policy.placing policy.now) (ready_by self.now.paths.now.steps.now self.now.paths.now.tails self.now.way.now run.now.time run.now.ends) }
     {
         let ready = self.ready(run);
         if ready.is_empty() {
@@ -57,7 +56,7 @@ impl<'a> Job<'a> {
     // The row of the step that begins now, if one does. `rows` are those written so far.
     fn next_row<P: Policy>(&self, policy: &P, run: &Run, rows: &[Row]) -> Option<Row>
         requires early { run.now.time ≤ max_steps * max_minutes }
-        ensures { result ≡ next_row run.now.time (chosen (P.Policy.placing policy.now) (ready_by self.now.steps.now self.now.tails.now self.now.way.now run.now.time run.now.ends)) (free self.now.benches (moment run.now.time rows.now)) }
+        ensures { result ≡ next_row run.now.time (chosen (P.Policy.placing policy.now) (ready_by self.now.paths.now.steps.now self.now.paths.now.tails self.now.way.now run.now.time run.now.ends)) (free self.now.benches (moment run.now.time rows.now)) }
     {
         let bench = lowest_free(rows, self.benches, run.time)?;
         let ready = self.choose(policy, run)?;
@@ -71,12 +70,12 @@ impl<'a> Job<'a> {
 
     // One turn: a step begins, or the time goes on to the next end.
     fn turn<P: Policy>(&self, policy: &P, run: &mut Run, rows: &mut [Row])
-        requires way { Way self.now.steps.now (members self.now.way.now) }
-        requires room { length self.now.steps.now ≤ length rows.old }
+        requires way { Way self.now.paths.now.steps.now (members self.now.way.now) }
+        requires room { length self.now.paths.now.steps.now ≤ length rows.old }
         requires count { run.old.count ≤ length rows.old }
-        requires greedy { Greedy self.now.benches self.now.steps.now (members self.now.way.now) (state run.old rows.old) }
+        requires greedy { Greedy self.now.benches self.now.paths.now.steps.now (members self.now.way.now) (state run.old rows.old) }
         requires tracked { Tracked run.old rows.old }
-        ensures turned { state run.new rows.new ≡ turn self.now.benches self.now.steps.now (P.Policy.placing policy.now) (members self.now.way.now) (state run.old rows.old) }
+        ensures turned { state run.new rows.new ≡ turn self.now.benches self.now.paths.now.steps.now (P.Policy.placing policy.now) (members self.now.way.now) (state run.old rows.old) }
         ensures tracked { Tracked run.new rows.new }
         ensures count { run.new.count ≤ length rows.new }
         ensures more { run.old.count ≤ run.new.count }
@@ -94,40 +93,39 @@ impl<'a> Job<'a> {
 
     // All turns: each step takes at most one to begin, and one to wait for its end.
     fn make_turns<P: Policy>(&self, policy: &P, run: &mut Run, rows: &mut [Row])
-        requires way { Way self.now.steps.now (members self.now.way.now) }
-        requires room { length self.now.steps.now ≤ length rows.old }
+        requires way { Way self.now.paths.now.steps.now (members self.now.way.now) }
+        requires room { length self.now.paths.now.steps.now ≤ length rows.old }
         requires starts { state run.old rows.old ≡ empty_state }
         requires count { run.old.count ≤ length rows.old }
         requires tracked { Tracked run.old rows.old }
-        ensures turned { state run.new rows.new ≡ final self.now.benches self.now.steps.now (P.Policy.placing policy.now) (members self.now.way.now) }
+        ensures turned { state run.new rows.new ≡ final self.now.benches self.now.paths.now.steps.now (P.Policy.placing policy.now) (members self.now.way.now) }
         ensures tracked { Tracked run.new rows.new }
         ensures count { run.new.count ≤ length rows.new }
         ensures kept { drop run.new.count rows.new ≡ drop run.new.count rows.old }
     {
-        for _turns in 0..2 * self.steps.len() {
+        for _turns in 0..2 * self.paths.steps.len() {
             self.turn(policy, run, rows);
         }
     }
 }
 
-// Makes the timetable of a way under a policy: its rows, in the order in which they begin, in the front of `rows`. The steps
-// are a sheet's, `tails` has the tail of each, and `way` marks the members of one of its ways.
+// Makes the timetable of a way under a policy: its rows, in the order in which they begin, in the front of `rows`. `way` marks
+// the members of one of the sheet's ways.
 pub fn dispatch<P: Policy>(
-    steps: &[Step],
-    tails: &[u32],
+    paths: &Paths,
     way: &[bool],
     benches: u8,
     policy: &P,
     rows: &mut [Row],
 ) -> Timetable
-    requires inputs { Inputs steps.now tails.now way.now }
+    requires marked { length paths.now.steps.now ≤ length way.now }
+    requires way { Way paths.now.steps.now (members way.now) }
     requires crewed { 0 < benches }
-    requires room { length steps.now ≤ length rows.old }
-    ensures { Dispatches benches steps.now (members way.now) (P.Policy.placing policy.now) rows.old rows.new result }
+    requires room { length paths.now.steps.now ≤ length rows.old }
+    ensures { Dispatches benches paths.now.steps.now (members way.now) (P.Policy.placing policy.now) rows.old rows.new result }
 {
     let job = Job {
-        steps,
-        tails,
+        paths,
         way,
         benches,
     };

@@ -16,13 +16,13 @@ turn-requires g c =
       way = c.requires.way;
       room = omega (arith, c.requires.room, c.loop-turns.auto.rows);
       count = c.loop-turns.invariant.2;
-      greedy = subst (Greedy c.args.self.now.benches c.args.self.now.steps.now w) (sym c.loop-turns.invariant.0) (turns_greedy c.args.self.now.benches c.args.self.now.steps.now w p c.loop-turns._turns empty_state starts);
+      greedy = subst (Greedy c.args.self.now.benches c.args.self.now.paths.now.steps.now w) (sym c.loop-turns.invariant.0) (turns_greedy c.args.self.now.benches c.args.self.now.paths.now.steps.now w p c.loop-turns._turns empty_state starts);
       tracked = c.loop-turns.invariant.1;
     }
 
 pub loop-turns-preserved : goal.loop-turns-preserved
 loop-turns-preserved g c =
-    let f = turn c.args.self.now.benches c.args.self.now.steps.now (g.P.Policy.placing c.args.policy.now) (members c.args.self.now.way.now) in
+    let f = turn c.args.self.now.benches c.args.self.now.paths.now.steps.now (g.P.Policy.placing c.args.policy.now) (members c.args.self.now.way.now) in
     let old = c.loop-turns.invariant in
     let new = c.turn.ensures in (
       new.turned ∙ ap f old.0 ∙ sym (turns_add c.loop-turns._turns 1 f empty_state),

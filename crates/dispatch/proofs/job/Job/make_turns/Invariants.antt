@@ -7,7 +7,7 @@ use Rattle.dispatch.proofs.job.Job.make_turns.Given as goal
 
 abbrev pub invariant-loop-turns : goal.invariant-loop-turns
 invariant-loop-turns g l =
-    (state l.run l.rows ≡ turns l._turns (turn l.self.benches l.self.steps.now (g.P.Policy.placing l.policy) (members l.self.way.now)) empty_state)
+    (state l.run l.rows ≡ turns l._turns (turn l.self.benches l.self.paths.now.steps.now (g.P.Policy.placing l.policy) (members l.self.way.now)) empty_state)
     × Tracked l.run l.rows
     × (l.run.count ≤ length l.rows)
     × (drop l.run.count l.rows ≡ drop l.run.count l.initial.rows)

@@ -8,5 +8,5 @@ use Rattle.dispatch.proofs.job.Job.ready.Given as goal
 abbrev pub invariant-loop-i : goal.invariant-loop-i
 invariant-loop-i l =
     (length l.ready.items ≤ l.i)
-    × (l.ready.items ++ readies (ready_among l.self.steps.now (members l.self.way.now) (started_by l.run.ends) (done_by l.run.time l.run.ends)) (λ k. get_or l.self.tails.now k 0) l.i (drop l.i l.self.steps.now)
-    ≡ ready_by l.self.steps.now l.self.tails.now l.self.way.now l.run.time l.run.ends)
+    × (l.ready.items ++ readies (ready_among l.self.paths.now.steps.now (members l.self.way.now) (started_by l.run.ends) (done_by l.run.time l.run.ends)) (λ k. get_or l.self.paths.now.tails k 0) l.i (drop l.i l.self.paths.now.steps.now)
+    ≡ ready_by l.self.paths.now.steps.now l.self.paths.now.tails l.self.way.now l.run.time l.run.ends)

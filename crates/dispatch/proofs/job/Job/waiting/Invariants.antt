@@ -10,4 +10,4 @@ abbrev pub invariant-loop-k : goal.invariant-loop-k
 invariant-loop-k l =
     (1 ≤ l.k)
     × (length l.waiting ≡ max_steps)
-    × ((i : ℕ) → i < length l.self.steps.now → get_or l.waiting i false ≡ not (fed (members l.self.way.now) (done_by l.run.time l.run.ends) i l.k (drop l.k l.self.steps.now)))
+    × ((i : ℕ) → i < length l.self.paths.now.steps.now → get_or l.waiting i false ≡ not (fed (members l.self.way.now) (done_by l.run.time l.run.ends) i l.k (drop l.k l.self.paths.now.steps.now)))
