@@ -1,4 +1,5 @@
-// The minutes and the chains of all steps at a limit, in one pass from the highest step down.
+// The minutes and the chains of all steps at a limit, in one pass from the highest step down. `least` makes the same pass; one
+// text for both would be handed how a step begins, settles and is folded, each with its law, and be no plainer.
 ghost use Rattle.std.specs.Prelude.{◌≡◌, ◌+◌, ◌<◌, ◌≤◌, true, ◌&&◌, ◌||◌, length, nat_lt};
 ghost use Rattle.steps.specs.Sheet.{step};
 ghost use Rattle.ways.specs.Least.{plus_all};

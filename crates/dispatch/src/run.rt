@@ -4,7 +4,8 @@ ghost use Rattle.steps.specs.Limits.{max_steps};
 
 use steps::limits::MAX_STEPS;
 
-// The time, how many rows are written, and the end of each step that has begun.
+// The time, how many rows are written, and the end of each step that has begun. The rows lie in the caller's table, so their
+// number stands apart from them.
 #[derive(Drop)]
 pub(crate) struct Run {
     pub(crate) time: u32,

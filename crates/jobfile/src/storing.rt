@@ -39,6 +39,7 @@ pub fn store(steps: &[Step], benches: u8, buffer: &mut [u8]) -> Result<usize, Re
     Ok(size)
 }
 
+// The record of a step. No `From`: neither type of it is of this crate.
 fn step_record(step: &Step) -> [u8; 14]
     ensures { result ≡ step_bytes step.now }
 {

@@ -12,7 +12,8 @@ pub enum Join {
     Or,
 }
 
-// A step leads into the step `target`, or nowhere if it is step 0. `fee` is in cents.
+// A step leads into the step `target`, or nowhere if it is step 0. `fee` is in cents. The target is a number and no `Option`, as
+// in the file: all steps but one have a target, and step 0 has `NO_TARGET`.
 #[derive(Clone, Copy, PartialEq, Eq, Debug, Default)]
 pub struct Step {
     pub target: u16,

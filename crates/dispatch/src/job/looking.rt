@@ -32,6 +32,7 @@ impl<'a> Job<'a> {
         ensures { (i : ℕ) → i < length self.now.paths.now.steps.now → slice_index_or result i false ≡ not (fed (members self.now.way.now) (done_by run.now.time run.now.ends) i (suc i) (drop (suc i) self.now.paths.now.steps.now)) }
     {
         let mut waiting = [false; MAX_STEPS];
+        // by numbers, since a step's mark and end are asked by its number; a chain over three tables would be no plainer
         for k in (1..self.paths.steps.len()).rev() {
             if is_pending(self.way[k], run.ends[k], run.time) {
                 waiting[self.paths.steps[k].target as usize] = true;

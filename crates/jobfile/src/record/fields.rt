@@ -9,7 +9,7 @@ use super::judging::{long, word};
 use super::{HeadFields, Kind, Record};
 use steps::step::{Join, Step};
 
-// The step of a step record's bytes.
+// The step of a step record's bytes. No `From`: neither type of it is of this crate.
 pub(crate) fn step_in(bytes: &[u8]) -> Step
     requires { 14 ≤ length bytes.now }
     ensures { result ≡ step_in bytes.now }

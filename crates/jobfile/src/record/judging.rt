@@ -21,7 +21,8 @@ const MAX_NOTE: u16 = 200;
 // The one edition of the layout.
 pub(crate) const EDITION: u8 = 1;
 
-// The number in the two bytes at `i`.
+// The number in the two bytes at `i`. One text for this and `long` would want a trait of the two types of number, whose impls
+// would be these bodies.
 pub(super) fn word(bytes: &[u8], i: usize) -> u16
     requires { i + 1 < length bytes.now }
     ensures { result ≡ word bytes.now i }

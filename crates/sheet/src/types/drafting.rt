@@ -26,7 +26,7 @@ impl Draft {
         Draft { steps, benches: 1 }
     }
 
-    // Puts an open step behind the others, and answers its number.
+    // Puts an open step behind the others, and answers its number. The join comes as its number, which may be refused.
     pub fn add(&mut self, target: u16, join: u8, minutes: u16, fee: u32) -> Result<u16, Refusal>
         ensures answer { told result ≡ add_answer (draft_sheet self.old) target join minutes fee }
         ensures after { draft_sheet self.new ≡ add_after (draft_sheet self.old) target join minutes fee }
