@@ -3,3 +3,4 @@ mod Picking
 mod Amounts
 mod Entering
 mod Reaching
+pub mod Listing

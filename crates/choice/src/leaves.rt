@@ -1,22 +1,19 @@
 // Leaves: the AND steps that no step leads into.
-ghost use Rattle.std.specs.Prelude.{◌≡◌, ◌<◌, not, ◌&&◌, length};
-ghost use Rattle.steps.specs.Sheet.{step};
-ghost use Rattle.plans.specs.Leaves.{is_leaf};
+ghost use Rattle.std.specs.Prelude.{◌≡◌, not, ◌&&◌};
+ghost use Rattle.plans.specs.Leaves.{is_and};
 
-use paths::Paths;
-use steps::step::Join;
+use steps::step::{Join, Step};
 
-pub fn is_leaf(paths: &Paths, i: usize) -> bool
-    requires { i < length paths.now.steps.now }
-    ensures { result ≡ is_leaf paths.now.steps.now i }
+// Whether a step is a leaf, where it is known whether another leads into it.
+pub fn is_leaf(step: &Step, fed: bool) -> bool
+    ensures { result ≡ (is_and step.now.join && not fed) }
 {
-    matches!(paths.steps[i].join, Join::And) && !paths.fed[i]
+    matches!(step.join, Join::And) && !fed
 }
 
-// Whether the path of step `i` is one of the limits.
-pub fn sets_limit(paths: &Paths, i: usize) -> bool
-    requires { i < length paths.now.steps.now }
-    ensures { result ≡ (is_leaf paths.now.steps.now i && not (step paths.now.steps.now i).closed) }
+// Whether the path of the step is one of the limits.
+pub fn sets_limit(step: &Step, fed: bool) -> bool
+    ensures { result ≡ (is_and step.now.join && not fed && not step.now.closed) }
 {
-    is_leaf(paths, i) && !paths.steps[i].closed
+    is_leaf(step, fed) && !step.closed
 }

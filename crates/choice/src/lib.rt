@@ -29,9 +29,8 @@ pub fn limits(paths: &Paths) -> ArrayVec<u32, MAX_STEPS>
     ensures few { array_vec_len result ≤ length paths.now.steps.now }
 {
     let mut limits = ArrayVec::new();
-    // by numbers, for which a step and its tail are asked; a chain over both tables would be no plainer
-    for i in (0..paths.steps.len()).rev() {
-        if sets_limit(paths, i) {
+    for (i, step) in paths.steps.iter().enumerate().rev() {
+        if sets_limit(step, paths.fed[i]) {
             insert(&mut limits, paths.tails[i]);
         }
     }

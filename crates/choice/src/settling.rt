@@ -60,7 +60,8 @@ fn closed_at(paths: &Paths, limit: u32, i: usize) -> bool
     requires { i < length paths.now.steps.now }
     ensures { result ≡ ((step paths.now.steps.now i).closed || (is_leaf paths.now.steps.now i && nat_lt limit (tail paths.now.steps.now i))) }
 {
-    paths.steps[i].closed || is_leaf(paths, i) && limit < paths.tails[i]
+    let step = &paths.steps[i];
+    step.closed || is_leaf(step, paths.fed[i]) && limit < paths.tails[i]
 }
 
 // What a step begins with, before its feeders are folded in.

@@ -32,7 +32,8 @@ impl<'a> Job<'a> {
         ensures { (i : ℕ) → i < length self.now.paths.now.steps.now → slice_index_or result i false ≡ not (fed (members self.now.way.now) (done_by run.now.time run.now.ends) i (suc i) (drop (suc i) self.now.paths.now.steps.now)) }
     {
         let mut waiting = [false; MAX_STEPS];
-        // by numbers, since a step's mark and end are asked by its number; a chain over three tables would be no plainer
+        // by numbers from 1 on, since step 0 leads nowhere, and a step's mark and end are asked by its number; an iterator over
+        // the steps would want a test for step 0, and be no plainer
         for k in (1..self.paths.steps.len()).rev() {
             if is_pending(self.way[k], run.ends[k], run.time) {
                 waiting[self.paths.steps[k].target as usize] = true;
