@@ -5,8 +5,8 @@ ghost use Rattle.job_format.specs.Layout.{step_in};
 ghost use Rattle.jobfile.specs.Kinds.{kind_number};
 ghost use Rattle.jobfile.specs.Reading.{bytes_of, kind_of, head_of, step_of, note_of};
 
-use super::judging::{long, word};
 use super::{HeadFields, Kind, Record};
+use byteorder::{ByteOrder, LittleEndian};
 use steps::step::{Join, Step};
 
 // The step of a step record's bytes. No `From`: neither type of it is of this crate.
@@ -15,10 +15,10 @@ pub(crate) fn step_in(bytes: &[u8]) -> Step
     ensures { result ≡ step_in bytes.now }
 {
     Step {
-        target: word(bytes, 4),
+        target: LittleEndian::read_u16(&bytes[4..]),
         join: Join::try_from(bytes[6]).unwrap_or(Join::And),
-        minutes: word(bytes, 8),
-        fee: long(bytes, 10),
+        minutes: LittleEndian::read_u16(&bytes[8..]),
+        fee: LittleEndian::read_u32(&bytes[10..]),
         closed: bytes[7] == 1,
     }
 }

@@ -1,11 +1,12 @@
 // Whether a record passes, and the first reason why it does not.
-ghost use Rattle.std.specs.Prelude.{◌≡◌, ◌+◌, ◌<◌, ◌≤◌, length, IfOk};
+ghost use Rattle.std.specs.Prelude.{◌≡◌, ◌≤◌, length, IfOk};
 ghost use Rattle.std.specs.Result.{result_err};
-ghost use Rattle.job_format.specs.Layout.{word, long, kind, bad_head, bad_target, bad_join, bad_step, misplaced, wrong_length, fault};
+ghost use Rattle.job_format.specs.Layout.{body_length, kind, bad_head, bad_target, bad_join, bad_step, misplaced, wrong_length, fault};
 ghost use Rattle.job_format.specs.Decoding.{first};
-ghost use Rattle.jobfile.specs.Kinds.{kind_number};
+ghost use Rattle.jobfile.specs.Kinds.{kind_number, KindDecodes};
 
 use super::Kind;
+use byteorder::{ByteOrder, LittleEndian};
 use job_format::Stage;
 use steps::limits::{MAX_BENCHES, MAX_FEE, MAX_MINUTES, NO_TARGET};
 use steps::refusal::Refusal;
@@ -21,21 +22,19 @@ const MAX_NOTE: u16 = 200;
 // The one edition of the layout.
 pub(crate) const EDITION: u8 = 1;
 
-// The number in the two bytes at `i`. One text for this and `long` would want a trait of the two types of number, whose impls
-// would be these bodies.
-pub(super) fn word(bytes: &[u8], i: usize) -> u16
-    requires { i + 1 < length bytes.now }
-    ensures { result ≡ word bytes.now i }
+// The length of the body that a record announces.
+fn body_length(bytes: &[u8]) -> u16
+    requires { 4 ≤ length bytes.now }
+    ensures { result ≡ body_length bytes.now }
 {
-    u16::from_le_bytes([bytes[i], bytes[i + 1]])
+    LittleEndian::read_u16(bytes)
 }
 
-// The number in the four bytes at `i`.
-pub(super) fn long(bytes: &[u8], i: usize) -> u32
-    requires { i + 3 < length bytes.now }
-    ensures { result ≡ long bytes.now i }
+fn kind(bytes: &[u8]) -> Result<Kind, Refusal>
+    requires { 4 ≤ length bytes.now }
+    ensures { KindDecodes (kind bytes.now) result }
 {
-    u32::from_le_bytes([bytes[i], bytes[i + 1], bytes[i + 2], bytes[i + 3]])
+    Kind::try_from(LittleEndian::read_u16(&bytes[2..]))
 }
 
 // The record at the front of `bytes`: as many as it announces, or all that are left.
@@ -45,7 +44,7 @@ pub(super) fn first<'a>(bytes: &'a [u8]) -> &'a [u8]
     if bytes.len() < 4 {
         return bytes;
     }
-    let size = 4 + word(bytes, 0) as usize;
+    let size = 4 + usize::from(body_length(bytes));
     bytes.get(..size).unwrap_or(bytes)
 }
 
@@ -101,13 +100,13 @@ fn is_bad_step(number: usize, bytes: &[u8]) -> bool
     requires { 14 ≤ length bytes.now }
     ensures { result ≡ bad_step number bytes.now }
 {
-    let minutes = word(bytes, 8);
-    is_bad_target(number, word(bytes, 4))
+    let minutes = LittleEndian::read_u16(&bytes[8..]);
+    is_bad_target(number, LittleEndian::read_u16(&bytes[4..]))
         || is_bad_join(number, bytes[6])
         || bytes[7] > 1
         || minutes < 1
         || minutes > MAX_MINUTES
-        || long(bytes, 10) > MAX_FEE
+        || LittleEndian::read_u32(&bytes[10..]) > MAX_FEE
 }
 
 // The kind of a record that passes after `steps` steps of at most `limit`, or the first reason that fits it.
@@ -118,11 +117,11 @@ pub(super) fn judge(limit: usize, stage: Stage, steps: usize, bytes: &[u8]) -> R
     if bytes.len() < 4 {
         return Err(Refusal::RecordCutShort);
     }
-    let size = word(bytes, 0);
-    if bytes.len() < 4 + size as usize {
+    let size = body_length(bytes);
+    if bytes.len() < 4 + usize::from(size) {
         return Err(Refusal::RecordCutShort);
     }
-    let kind = Kind::try_from(word(bytes, 2))?;
+    let kind = kind(bytes)?;
     if is_misplaced(stage, steps, kind) {
         return Err(Refusal::RecordOutOfPlace);
     }
