@@ -1,3 +1,4 @@
+mod Made
 mod Places
 mod Picking
 mod Amounts

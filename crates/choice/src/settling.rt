@@ -29,7 +29,7 @@ pub fn settle_all(paths: &Paths, limit: u32) -> [Entry; MAX_STEPS]
     ensures { Settled limit paths.now.steps.now 0 result }
 {
     let steps = paths.steps;
-    // no entry behind the steps is read
+    // no entry behind the steps is read, so any join will do there
     let mut table = array::from_fn(|i| start(steps.get(i).map_or(Join::Or, |step| step.join)));
     // by numbers, since settling a step also writes the entry of its target
     for i in (0..steps.len()).rev() {
@@ -75,7 +75,8 @@ fn start(join: Join) -> Entry
     Entry { sums, feeder: None }
 }
 
-// The sums of a step into which all its feeders are folded.
+// The sums of a step into which all its feeders are folded. That sums are within their bound is asked of the result, here and below,
+// so that no addition overflows; no type of an argument could hold it.
 fn finish(minutes: u16, closed: bool, so_far: Option<Sums>) -> Option<Sums>
     requires { Within (grown closed minutes so_far) }
     ensures { result ≡ grown closed minutes so_far }

@@ -3,22 +3,15 @@ use Rattle.std.proofs.Common.{◌≡◌, ℕ, ◌<◌, Bool, true, false, cond, 
 use Rattle.std.proofs.lemmas.List.{get_or-set_same, get_or-set_other}
 use Rattle.std.proofs.lemmas.Bool.{cases_eq, eq-eqb, ne_eqb, or_parts, or_from}
 use Rattle.steps.specs.declared.row.Row.{Row}
+use Rattle.std.proofs.Math.Bool.{or-false}
+use Rattle.std.proofs.lemmas.List.Folds.{list_any-append}
 use Rattle.std.specs.List.{list_any}
 use Rattle.schedules.specs.Dispatch.{begun, ended}
 use Rattle.schedules.specs.Timetables.{end_of}
 use Rattle.dispatch.specs.Tracking.{end_in, passed, started_by, done_by, Tracks}
 
 any_push : (test : Row → Bool) (rows : List Row) (r : Row) → list_any test (rows ++ r ∷ []) ≡ (list_any test rows || test r)
-any_push test [] r = go (test r)
-  where
-    go : (b : Bool) → (b || false) ≡ (false || b)
-    go true = refl
-    go false = refl
-any_push test (q ∷ rows) r = ap (λ b. test q || b) (any_push test rows r) ∙ go (test q) (list_any test rows) (test r)
-  where
-    go : (a b c : Bool) → (a || (b || c)) ≡ ((a || b) || c)
-    go true b c = refl
-    go false b c = refl
+any_push test rows r = list_any-append test rows (r ∷ []) ∙ ap (λ b. list_any test rows || b) (or-false (test r))
 
 end_push : (i : ℕ) (rows : List Row) (r : Row) → end_of i (rows ++ r ∷ []) ≡ cond (begun i rows) (end_of i rows) (cond (eqb r.step i) r.end 0)
 end_push i [] r = refl

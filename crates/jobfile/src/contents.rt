@@ -8,7 +8,7 @@ mod loading;
 pub use loading::load;
 
 // The benches of the head, and the steps.
-#[derive(Drop)]
+#[derive(Clone, Drop)]
 pub struct Contents {
     pub benches: u8,
     pub steps: ArrayVec<Step, MAX_STEPS>,

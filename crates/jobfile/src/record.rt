@@ -16,7 +16,8 @@ pub use kind::Kind;
 // The longest job file, in bytes.
 pub const MAX_FILE: usize = 65_536;
 
-// A record of a job file: its bytes, header and body, as they lie in the file.
+// A record of a job file: its bytes, header and body, as they lie in the file. Callers tell the kinds apart by matching, so it is an
+// enum and no struct of a kind and bytes.
 #[derive(Clone, Copy)]
 pub enum Record<'a> {
     Head(&'a [u8]),

@@ -1,4 +1,6 @@
-// The least figure of each step, made from those of its feeders, which are folded into it from the highest number down.
+// The least figure of each step, made from those of its feeders, which are folded into it from the highest number down. `choice`
+// makes the same pass, with bounded sums and a record of the feeder that is taken; one text for both would be handed how a step
+// begins, settles and is folded, each with its law, and be no plainer.
 ghost use Rattle.std.specs.Prelude.{◌≡◌, ◌+◌, ◌<◌, ◌≤◌, true, length, drop};
 ghost use Rattle.std.specs.Option.{option_map};
 ghost use Rattle.steps.specs.Sheet.{Descending};
@@ -20,11 +22,13 @@ pub fn begin<M: Measure>(measure: &M, steps: &[Step], table: &mut [Entry<M::Figu
     ensures kept { drop (length steps.now) table.new ≡ drop (length steps.now) table.old }
 {
     for (i, step) in steps.iter().enumerate() {
+        // by number: of what a slice's `iter_mut` lends, a proof does not know what was written
         table[i] = entry(measure, start(measure, step.join));
     }
 }
 
-// Settles step `i`, into which all its feeders are folded, and folds it into its target.
+// Settles step `i`, into which all its feeders are folded, and folds it into its target. The table is the caller's, so it is handed on
+// with the measure and the steps; a struct of these two would be made by `fill` alone.
 pub fn settle<M: Measure>(measure: &M, steps: &[Step], table: &mut [Entry<M::Figure>], i: usize)
     requires room { length steps.now ≤ length table.old }
     requires few { length steps.now < 65536 }

@@ -27,7 +27,8 @@ use steps::step::{Join, Step};
 // The bytes of a buffer that holds the longest listing.
 pub const LISTING_BYTES: usize = 20_480;
 
-// A listing as it is written, piece by piece.
+// A listing as it is written, piece by piece: of `write!` into a text of fixed capacity a proof found neither what is written nor
+// that it fits.
 type Text = ArrayVec<u8, LISTING_BYTES>;
 
 // Writes the listing of a job file to the front of the buffer, and answers how many bytes it is.

@@ -1,4 +1,4 @@
--- The steps of a sheet beside a table of their tails.
+-- A table of the tails of a sheet's steps.
 use Rattle.std.specs.Prelude.{◌≡◌, ℕ, ◌<◌, List, length, slice_index}
 use Rattle.steps.specs.declared.step.Step.{Step}
 use Rattle.ways.specs.Paths.{tail}

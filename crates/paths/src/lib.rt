@@ -17,7 +17,8 @@ mod tails;
 
 pub use tails::{fill_tails, tail};
 
-// The steps of a sheet with the tail of each, and with a mark on each that another leads into.
+// The steps of a sheet with the tail of each, and with a mark on each that another leads into. The tables stand beside the steps, by
+// number: the steps are the sheet's own, and one table of tails and marks would be indexed as two are.
 #[derive(Drop)]
 pub struct Paths<'a> {
     pub steps: &'a [Step],

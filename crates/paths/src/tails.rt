@@ -1,4 +1,5 @@
-// Tails: the minutes from a step to the hand-over.
+// Tails: the minutes from a step to the hand-over. What is asked of the steps stands in each contract here, since `Paths`, which
+// holds it, is made by these functions.
 ghost use Rattle.std.specs.Prelude.{◌≡◌, ℕ, ◌<◌, ◌≤◌, length, drop, slice_index};
 ghost use Rattle.steps.specs.Limits.{max_steps};
 ghost use Rattle.steps.specs.Sheet.{Sized, Descending, Timed};
@@ -33,7 +34,7 @@ pub fn fill_tails(steps: &[Step], tails: &mut [u32])
     ensures tails { (i : ℕ) → i < length steps.now → slice_index tails.new i ≡ tail steps.now i }
     ensures kept { drop (length steps.now) tails.new ≡ drop (length steps.now) tails.old }
 {
-    // by numbers: of what `iter_mut` lends, a proof does not know what was written
+    // by numbers: of what a slice's `iter_mut` lends, a proof does not know what was written
     for i in 0..steps.len() {
         tails[i] = tail(steps, i);
     }

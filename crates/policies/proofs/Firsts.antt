@@ -1,32 +1,16 @@
 -- The loop that looks for the first entry that none comes before, and the one that looks for the first that passes a test.
-use Rattle.std.proofs.Common.{◌≡◌, ℕ, ◌+◌, ◌-◌, ◌<◌, ◌≤◌, Bool, true, false, cond, ltb, List, length, Some, None, sym, refl, ap, ◌∙◌, arith, below_more}
-use Rattle.std.proofs.lemmas.Bool.{cond-true, cond-false, lt-ltb, le-ltb, both_ways, not_from_true}
+use Rattle.std.proofs.Common.{◌≡◌, ℕ, ◌-◌, ◌<◌, ◌≤◌, Bool, true, false, cond, ltb, List, length, Some, None, sym, ap, ◌∙◌, arith}
+use Rattle.std.proofs.lemmas.Bool.{cond-true, cond-false, lt-ltb, le-ltb, not_from_true}
 use Rattle.std.specs.List.{position}
 use Rattle.std.specs.Option.{unwrap_or}
 use Rattle.std.proofs.lemmas.List.Folds.{list_any_at}
 use Rattle.std.proofs.lemmas.List.Sums.{position_or_len_is}
 use Rattle.steps.specs.declared.ready.Ready.{Ready}
 use Rattle.steps.specs.Placing.{no_ready}
-use Rattle.policies.specs.Places.{Strict, entry, unbeaten, best, Leads}
+use Rattle.policies.specs.Places.{entry, unbeaten, best, Leads}
 use Rattle.policies.specs.Found.{none_before}
 
 module _ (beats : Ready → Ready → Bool) (rs : List Ready) where
-  pub leads_none : Leads beats rs 0 0
-  leads_none = record { unbeaten = λ k h. absurd (omega arith); before = λ k h. absurd (omega arith) }
-
-  pub leads_stay : (i at : ℕ) → Leads beats rs i at → beats (entry rs i) (entry rs at) ≡ false → Leads beats rs (i + 1) at
-  leads_stay i at l e = record { unbeaten = below_more _ _ l.unbeaten e; before = l.before }
-
-  pub leads_move : Strict beats → (i at : ℕ) → Leads beats rs i at → beats (entry rs i) (entry rs at) ≡ true → Leads beats rs (i + 1) i
-  leads_move strict i at l e = record {
-    unbeaten = below_more _ _ (λ k h. not_before k h (beats (entry rs k) (entry rs i)) refl) (strict.itself (entry rs i));
-    before = λ k h. strict.level (entry rs i) (entry rs at) (entry rs k) e (l.unbeaten k h);
-  }
-    where
-      not_before : (k : ℕ) → k < i → (b : Bool) → beats (entry rs k) (entry rs i) ≡ b → b ≡ false
-      not_before k h true f = absurd (both_ways _ (l.unbeaten k h) (strict.through (entry rs k) (entry rs i) (entry rs at) f e))
-      not_before k h false f = refl
-
   pub leads_best : (at : ℕ) → at ≤ length rs - 1 → Leads beats rs (length rs) at → at ≡ best beats rs
   leads_best at inside l =
       sym (position_or_len_is (unbeaten beats rs) rs at no_ready (omega arith)

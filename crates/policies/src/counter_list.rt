@@ -47,6 +47,7 @@ impl Policy for CounterList {
     }
 }
 
+// As for the rush layer, but for the field and the rest; an impl over all that hold `Values` would be told both by a trait of its own.
 impl Changeable for CounterList {
     type Rest = ();
 

@@ -46,6 +46,7 @@ impl<P: Policy> Policy for RushLayer<P> {
         if !rises(ready) {
             return 0;
         }
+        // all policies go over the ready steps with their places
         for (i, r) in ready.iter().enumerate() {
             if self.is_marked(r) {
                 return i;

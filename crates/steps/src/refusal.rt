@@ -26,7 +26,8 @@ pub enum Refusal {
     BufferTooShort,
 }
 
-// The number by which users know the reason.
+// The number by which users know the reason. By `match` and not by numbers of the cases: a wrong number is then refused by the
+// contract.
 impl From<Refusal> for u8 {
     ghost from_gives = { λ refusal n. n ≡ number refusal };
 

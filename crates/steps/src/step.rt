@@ -23,7 +23,7 @@ pub struct Step {
     pub closed: bool,
 }
 
-// The number by which files and callers name a join.
+// The number by which files and callers name a join; by `match`, as for refusals.
 impl From<Join> for u8 {
     ghost from_gives = { λ join number. number ≡ join_number join };
 

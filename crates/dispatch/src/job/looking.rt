@@ -67,7 +67,8 @@ fn is_busy(rows: &[Row], bench: u8, time: u32) -> bool
     rows.iter().any(|row| row.bench == bench && row.end > time)
 }
 
-// The lowest bench on which nothing runs.
+// The lowest bench on which nothing runs. The clauses of this and of `next_end` say it by the library's words, which a chain is
+// proved by; `next_row` and `turn`, which ask them, say it by the dispatch rule's.
 pub(super) fn lowest_free(rows: &[Row], benches: u8, time: u32) -> Option<u8>
     ensures { result ≡ find (λ b. not (busy time b rows.now)) (range_with_len 0 benches) }
 {

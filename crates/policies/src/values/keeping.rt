@@ -34,7 +34,7 @@ impl Values {
         if step >= KEPT_VALUES {
             return Err(Refusal::NoValueKept);
         }
-        // the list after a write through `get_mut` is not known to be this one
+        // by number: of a slice after a write through `get_mut` a proof knows the length alone
         self.values[step] = value;
         Ok(())
     }

@@ -2,7 +2,7 @@
 use Rattle.std.proofs.Common.{◌≡◌, ◌+◌, ◌-◌, ◌<◌, length, subst, rules, arith}
 use Rattle.steps.specs.Limits.{max_steps}
 use Rattle.steps.specs.Sheet.{step}
-use Rattle.paths.proofs.Made.{made_each}
+use Rattle.choice.proofs.Made.{made_each}
 use Rattle.choice.specs.Entries.{blank_entry, start_entry, Settled}
 use Rattle.choice.proofs.Entering.{entries_begun}
 use Rattle.choice.proofs.settling.settle_all.Goals as goal
