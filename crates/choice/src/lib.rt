@@ -74,7 +74,8 @@ pub fn members(paths: &Paths, limit: u32) -> [bool; MAX_STEPS]
     way
 }
 
-// The better of the best plan so far and that of a limit; the former if their scores tie.
+// The better of the best plan so far and that of a limit; the former if their scores tie. That the sums are within their bound is
+// what `at_limit` gives; their type is not only for such.
 fn consider(benches: u8, limit: u32, sums: Option<Sums>, best: Option<Plan>) -> Option<Plan>
     requires some { 1 ≤ benches }
     requires few { benches ≤ max_benches }

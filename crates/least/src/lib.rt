@@ -36,7 +36,7 @@ pub fn fill<M: Measure>(measure: &M, steps: &[Step], table: &mut [Entry<M::Figur
     ensures { Filled (M.Measure.meaning measure.now) (M.Measure.number measure.now) steps.now table.old table.new }
 {
     begin(measure, steps, table);
-    // a step is settled before those of lower number, into one of which it is folded
+    // by number, since settling a step also writes the entry of its target, which has a lower one
     for i in (0..steps.len()).rev() {
         settle(measure, steps, table, i);
     }

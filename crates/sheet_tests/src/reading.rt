@@ -228,7 +228,8 @@ fn worked_file(rt: HostRuntime) -> Result<(), Fail> {
     Ok(())
 }
 
-// A file that is cut where a record begins has no end record; any other is cut short in a record.
+// A file that is cut where a record begins has no end record; any other is cut short in a record. Refusals go by number here, as for
+// users.
 #[test]
 fn cuts(rt: HostRuntime) {
     for length in 0..108usize {

@@ -33,7 +33,7 @@ impl<'a> Job<'a> {
     {
         let mut waiting = [false; MAX_STEPS];
         // by numbers from 1 on, since step 0 leads nowhere, and a step's mark and end are asked by its number; an iterator over
-        // the steps would want a test for step 0, and be no plainer
+        // the steps from there on would count one less, and be no plainer
         for k in (1..self.paths.steps.len()).rev() {
             if is_pending(self.way[k], run.ends[k], run.time) {
                 waiting[self.paths.steps[k].target as usize] = true;

@@ -25,7 +25,8 @@ pub struct Timetable {
     pub rows: usize,
 }
 
-// Writes one row more.
+// Writes one row more. `Tracked` is asked here and by the turns: it speaks of the caller's rows too, and beside what is lent for
+// writing a struct can hold no fact.
 fn begin(run: &mut Run, rows: &mut [Row], row: Row)
     requires room { run.old.count < length rows.old }
     requires within { row.step < max_steps }

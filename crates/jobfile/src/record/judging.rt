@@ -86,6 +86,7 @@ fn is_bad_target(number: usize, target: u16) -> bool
     }
 }
 
+// The byte is judged here, so it is no `Join` yet.
 fn is_bad_join(number: usize, join: u8) -> bool
     ensures { result ≡ bad_join number join }
 {
