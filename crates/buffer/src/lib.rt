@@ -1,33 +1,36 @@
-// Writing into a buffer of fixed capacity: each function writes behind what the buffer has.
+// Writing text into a buffer of bytes, from a given place on. Each function answers the place behind what it wrote.
 #![tactic(auto)]
 
 ghost use Rattle.std.specs.Prelude.{◌≡◌, ◌+◌, ◌≤◌, ◌++◌, length, decimal};
-ghost use Rattle.arrayvec.specs.ArrayVec.{array_vec_len};
-
-use arrayvec::ArrayVec;
+ghost use Rattle.buffer.specs.Put.{put};
 
 // Writes the bytes.
-pub fn put_bytes<const N: usize>(buffer: &mut ArrayVec<u8, N>, bytes: &[u8])
-    requires { array_vec_len buffer.old + length bytes.now ≤ N }
-    ensures { buffer.new.items ≡ buffer.old.items ++ bytes.now }
+pub fn put_bytes(buffer: &mut [u8], at: usize, bytes: &[u8]) -> usize
+    requires { at + length bytes.now ≤ length buffer.old }
+    ensures text { buffer.new ≡ put buffer.old at bytes.now }
+    ensures end { result ≡ at + length bytes.now }
 {
-    let _ = buffer.try_extend_from_slice(bytes);
+    let end = at + bytes.len();
+    buffer[at..end].copy_from_slice(bytes);
+    end
 }
 
 // Writes the number in decimal.
-pub fn put_number<const N: usize>(buffer: &mut ArrayVec<u8, N>, n: u64)
-    requires { array_vec_len buffer.old + length (decimal n) ≤ N }
-    ensures { buffer.new.items ≡ buffer.old.items ++ decimal n }
+pub fn put_number(buffer: &mut [u8], at: usize, n: u64) -> usize
+    requires { at + length (decimal n) ≤ length buffer.old }
+    ensures text { buffer.new ≡ put buffer.old at (decimal n) }
+    ensures end { result ≡ at + length (decimal n) }
 {
     let mut digits = itoa::Buffer::new();
-    put_bytes(buffer, digits.format(n).as_bytes());
+    put_bytes(buffer, at, digits.format(n).as_bytes())
 }
 
 // Writes the label, and behind it the number in decimal.
-pub fn put_field<const N: usize>(buffer: &mut ArrayVec<u8, N>, label: &[u8], n: u64)
-    requires { array_vec_len buffer.old + length (label.now ++ decimal n) ≤ N }
-    ensures { buffer.new.items ≡ buffer.old.items ++ label.now ++ decimal n }
+pub fn put_field(buffer: &mut [u8], at: usize, label: &[u8], n: u64) -> usize
+    requires { at + length (label.now ++ decimal n) ≤ length buffer.old }
+    ensures text { buffer.new ≡ put buffer.old at (label.now ++ decimal n) }
+    ensures end { result ≡ at + length (label.now ++ decimal n) }
 {
-    put_bytes(buffer, label);
-    put_number(buffer, n);
+    let behind = put_bytes(buffer, at, label);
+    put_number(buffer, behind, n)
 }

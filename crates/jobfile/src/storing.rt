@@ -7,14 +7,9 @@ ghost use Rattle.steps.specs.Sheet.{sheet_of};
 ghost use Rattle.jobfile.specs.Storing.{store_answer, store_after};
 
 use crate::record::{EDITION, HEAD_BODY, Kind, STEP_BODY};
-use arrayvec::ArrayVec;
 use buffer::put_bytes;
-use steps::limits::MAX_STEPS;
 use steps::refusal::Refusal;
 use steps::step::Step;
-
-// The bytes of the longest sheet: a head, its steps, and an end.
-const LONGEST_FILE: usize = 10 + 14 * MAX_STEPS;
 
 // Head, steps and end, and how many bytes they are; the bytes behind them are kept.
 pub fn store(steps: &[Step], benches: u8, buffer: &mut [u8]) -> Result<usize, Refusal>
@@ -22,21 +17,18 @@ pub fn store(steps: &[Step], benches: u8, buffer: &mut [u8]) -> Result<usize, Re
     ensures answer { told result ≡ store_answer (sheet_of steps.now benches) buffer.old }
     ensures after { buffer.new ≡ store_after (sheet_of steps.now benches) buffer.old }
 {
-    let size = 10 + 14 * steps.len();
-    if buffer.len() < size {
+    if buffer.len() < 10 + 14 * steps.len() {
         return Err(Refusal::BufferTooShort);
     }
-    let mut file = ArrayVec::<u8, LONGEST_FILE>::new();
-    put_bytes(
-        &mut file,
+    let mut at = put_bytes(
+        buffer,
+        0,
         &[HEAD_BODY as u8, 0, Kind::Head as u8, 0, EDITION, benches],
     );
     for step in steps {
-        put_bytes(&mut file, &step_record(step));
+        at = put_bytes(buffer, at, &step_record(step));
     }
-    put_bytes(&mut file, &[0, 0, Kind::End as u8, 0]);
-    buffer[..size].copy_from_slice(&file);
-    Ok(size)
+    Ok(put_bytes(buffer, at, &[0, 0, Kind::End as u8, 0]))
 }
 
 // The record of a step. No `From`: neither type of it is of this crate.

@@ -6,9 +6,6 @@ use Rattle.std.proofs.lemmas.List.Sums.{count_by-le-length}
 use Rattle.std.proofs.lemmas.Bool.{cases_eq}
 use Rattle.std.specs.Option.{option_map}
 use Rattle.steps.proofs.Clashes.{clash}
-use Rattle.steps.specs.declared.refusal.Refusal.{Refusal}
-use Rattle.steps.specs.declared.refusal.Refusal.TheVariants.{NoSuchTarget, UnknownJoin, MinutesOutOfRange, FeeTooHigh, SheetFull, NoSuchStep, BenchesOutOfRange, NoValueKept, NoOpenWay, TableTooShort, FileTooLong, RecordCutShort, UnknownKind, RecordOutOfPlace, WrongBodyLength, TooManySteps, BadField, NoEndRecord, BufferTooShort}
-use Rattle.steps.specs.Numbers.{number}
 use Rattle.steps.specs.declared.step.Join.{Join}
 use Rattle.steps.specs.declared.step.Join.TheVariants.{And, Or}
 use Rattle.steps.specs.declared.step.Step.{Step}
@@ -29,8 +26,8 @@ four a b c d = simp length-append
 pub length_step_line : (i : ℕ) (s : Step) → length (step_line i s) ≡ length (codes "step " ++ decimal i) + length (target_text s.target) + length (join_text s.join) + length (codes " minutes " ++ decimal s.minutes) + length (codes " fee " ++ decimal s.fee) + length (state_text s.closed) + 1
 length_step_line i s = six (codes "step " ++ decimal i) (target_text s.target) (join_text s.join) (codes " minutes " ++ decimal s.minutes) (codes " fee " ++ decimal s.fee) (state_text s.closed) newline
   where
-    six : (a b c d e f g : List ℕ) → length (a ++ b ++ c ++ (d ++ e ++ f ++ g)) ≡ length a + length b + length c + length d + length e + length f + length g
-    six a b c d e f g = simp length-append (omega arith)
+    six : (a b c d e f g : List ℕ) → length (a ++ b ++ c ++ d ++ e ++ f ++ g) ≡ length a + length b + length c + length d + length e + length f + length g
+    six a b c d e f g = simp length-append
 
 pub length_count_line : (all closed : ℕ) → length (count_line all closed) ≡ length (codes "steps " ++ decimal all) + length (codes " open " ++ decimal (all - closed)) + length (codes " closed " ++ decimal closed) + 1
 length_count_line all closed = four (codes "steps " ++ decimal all) (codes " open " ++ decimal (all - closed)) (codes " closed " ++ decimal closed) newline
@@ -107,9 +104,6 @@ short_lines i (s ∷ ss) h =
     let here : length (step_line i s) ≤ 70 = subst (λ n. length (step_line n s) ≤ 70) (add-zero i) (h 0 (omega arith)) in
     let rest = short_lines (suc i) ss (λ k l. subst (λ n. length (step_line n (step ss k)) ≤ 70) (let z : i + suc k ≡ suc i + k = omega arith in z) (h (suc k) (omega arith))) in
     omega (arith, length-append (step_line i s) (step_lines (suc i) ss), here, rest)
-
-pub small_number : (e : Refusal) → number e < 256
-small_number e = elim e as (λ k. number k < 256) [ NoSuchTarget ↦ omega arith | UnknownJoin ↦ omega arith | MinutesOutOfRange ↦ omega arith | FeeTooHigh ↦ omega arith | SheetFull ↦ omega arith | NoSuchStep ↦ omega arith | BenchesOutOfRange ↦ omega arith | NoValueKept ↦ omega arith | NoOpenWay ↦ omega arith | TableTooShort ↦ omega arith | FileTooLong ↦ omega arith | RecordCutShort ↦ omega arith | UnknownKind ↦ omega arith | RecordOutOfPlace ↦ omega arith | WrongBodyLength ↦ omega arith | TooManySteps ↦ omega arith | BadField ↦ omega arith | NoEndRecord ↦ omega arith | BufferTooShort ↦ omega arith ]
 
 pub short_turned_down : (n p : ℕ) → n < 256 → p < 18446744073709551616 → length (turned_down (n, p)) ≤ 40
 short_turned_down n p a b =

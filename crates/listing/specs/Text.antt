@@ -31,12 +31,9 @@ join_text Or = codes " join OR"
 abbrev pub state_text : Bool → List ℕ
 state_text closed = cond closed (codes " cents closed") (codes " cents open")
 
-abbrev pub amounts_text : Step → List ℕ
-amounts_text s = (codes " minutes " ++ decimal s.minutes) ++ (codes " fee " ++ decimal s.fee) ++ state_text s.closed ++ newline
-
 -- a step with its number
 abbrev pub step_line : ℕ → Step → List ℕ
-step_line i s = (codes "step " ++ decimal i) ++ target_text s.target ++ join_text s.join ++ amounts_text s
+step_line i s = (codes "step " ++ decimal i) ++ target_text s.target ++ join_text s.join ++ (codes " minutes " ++ decimal s.minutes) ++ (codes " fee " ++ decimal s.fee) ++ state_text s.closed ++ newline
 
 -- these steps, the first of which has the number i
 abbrev pub step_lines : ℕ → List Step → List ℕ

@@ -1,20 +1,17 @@
 // The listing of a job file: what it holds, as text, or why it is refused.
 #![tactic(auto)]
 
-ghost use Rattle.std.specs.Prelude.{◌≡◌, ◌+◌, ◌≤◌, ◌++◌, length};
-ghost use Rattle.std.specs.Option.{option_map};
-ghost use Rattle.arrayvec.specs.ArrayVec.{array_vec_len};
+ghost use Rattle.std.specs.Prelude.{◌≡◌, ◌+◌, ◌≤◌, length, Some};
 ghost use Rattle.steps.specs.Limits.{max_steps};
-ghost use Rattle.steps.specs.Numbers.{told};
+ghost use Rattle.steps.specs.Numbers.{number, told};
 ghost use Rattle.steps.specs.Sheet.{sheet_of};
-ghost use Rattle.job_format.specs.Decoding.{decode};
-ghost use Rattle.jobfile.specs.Reading.{fault_of};
+ghost use Rattle.std.specs.Option.{option_map};
+ghost use Rattle.buffer.specs.Put.{put};
 ghost use Rattle.ways.specs.Least.{least_of};
 ghost use Rattle.ways.specs.Measures.{numbers};
 ghost use Rattle.sheet.specs.Model.{issued_sheet};
-ghost use Rattle.listing.specs.Text.{crew_line, target_text, join_text, state_text, amounts_text, step_line, count_line, closed_count, sheet_lines, least_figures, least_text, listing, turned_down, text_of, listing_bytes, listing_answer, listing_after};
+ghost use Rattle.listing.specs.Text.{crew_line, target_text, join_text, state_text, step_line, count_line, closed_count, sheet_lines, least_figures, least_text, turned_down, listing_answer, listing_after};
 
-use arrayvec::ArrayVec;
 use buffer::{put_bytes, put_field};
 use jobfile::record::Fault;
 use least::Entry;
@@ -27,10 +24,6 @@ use steps::step::{Join, Step};
 // The bytes of a buffer that holds the longest listing.
 pub const LISTING_BYTES: usize = 20_480;
 
-// A listing as it is written, piece by piece: of `write!` into a text of fixed capacity a proof found neither what is written nor
-// that it fits.
-type Text = ArrayVec<u8, LISTING_BYTES>;
-
 // Writes the listing of a job file to the front of the buffer, and answers how many bytes it is.
 pub fn list_job(file: &[u8], buffer: &mut [u8]) -> Result<usize, Refusal>
     ensures answer { told result ≡ listing_answer file.now buffer.old }
@@ -39,58 +32,37 @@ pub fn list_job(file: &[u8], buffer: &mut [u8]) -> Result<usize, Refusal>
     if buffer.len() < LISTING_BYTES {
         return Err(Refusal::TableTooShort);
     }
-    let text = text_of(file);
-    let size = text.len();
-    buffer[..size].copy_from_slice(&text);
-    Ok(size)
-}
-
-fn text_of(file: &[u8]) -> Text
-    ensures { result.items ≡ text_of (decode max_steps file.now) }
-{
     let mut sheet = Draft::new().issue();
     match sheet.read(file) {
-        Ok(()) => listing(&sheet),
-        Err(fault) => turned_down(fault),
+        Ok(()) => {
+            let at = put_sheet(buffer, sheet.steps(), sheet.benches());
+            Ok(put_least(buffer, at, least_figures(&sheet)))
+        }
+        Err(Fault { refusal, place }) => Ok(put_turned_down(buffer, refusal, place)),
     }
 }
 
-fn turned_down(fault: Fault) -> Text
-    ensures { result.items ≡ turned_down (fault_of fault) }
+// The line that says why and where a file is refused; none is longer than 40 bytes.
+fn put_turned_down(buffer: &mut [u8], refusal: Refusal, place: usize) -> usize
+    requires { 40 ≤ length buffer.old }
+    ensures text { buffer.new ≡ put buffer.old 0 (turned_down (number refusal, place)) }
+    ensures end { result ≡ length (turned_down (number refusal, place)) }
 {
-    let mut text = Text::new();
-    put_turned_down(&mut text, fault);
-    text
+    let at = put_field(buffer, 0, b"turned down ", u8::from(refusal) as u64);
+    let at = put_field(buffer, at, b" at ", place as u64);
+    put_bytes(buffer, at, b"\n")
 }
 
-fn listing(sheet: &Issued) -> Text
-    ensures { result.items ≡ listing (issued_sheet sheet.now) }
+fn put_sheet(buffer: &mut [u8], steps: &[Step], benches: u8) -> usize
+    requires { length (sheet_lines (sheet_of steps.now benches)) ≤ length buffer.old }
+    ensures text { buffer.new ≡ put buffer.old 0 (sheet_lines (sheet_of steps.now benches)) }
+    ensures end { result ≡ length (sheet_lines (sheet_of steps.now benches)) }
 {
-    let mut text = Text::new();
-    put_sheet(&mut text, sheet.steps(), sheet.benches());
-    put_least(&mut text, least_figures(sheet));
-    text
-}
-
-// The line that says why and where a file is refused.
-fn put_turned_down(text: &mut Text, fault: Fault)
-    requires { array_vec_len text.old + length (turned_down (fault_of fault)) ≤ listing_bytes }
-    ensures { text.new.items ≡ text.old.items ++ turned_down (fault_of fault) }
-{
-    put_field(text, b"turned down ", u8::from(fault.refusal).into());
-    put_field(text, b" at ", fault.place as u64);
-    put_bytes(text, b"\n");
-}
-
-fn put_sheet(text: &mut Text, steps: &[Step], benches: u8)
-    requires { array_vec_len text.old + length (sheet_lines (sheet_of steps.now benches)) ≤ listing_bytes }
-    ensures { text.new.items ≡ text.old.items ++ sheet_lines (sheet_of steps.now benches) }
-{
-    put_crew(text, benches);
+    let mut at = put_crew(buffer, benches);
     for (i, step) in steps.iter().enumerate() {
-        put_step(text, i, step);
+        at = put_step(buffer, at, i, step);
     }
-    put_counts(text, steps.len(), closed_count(steps));
+    put_counts(buffer, at, steps.len(), closed_count(steps))
 }
 
 // The least minutes, chain and fees of the open ways, if there is one.
@@ -119,17 +91,26 @@ fn least_figure<M: Measure>(
     sheet.least(measure, table).ok()
 }
 
-fn put_least(text: &mut Text, figures: Option<(u32, u32, u32)>)
-    requires { array_vec_len text.old + length (least_text figures) ≤ listing_bytes }
-    ensures { text.new.items ≡ text.old.items ++ least_text figures }
+fn put_least(buffer: &mut [u8], at: usize, figures: Option<(u32, u32, u32)>) -> usize
+    requires { at + length (least_text figures) ≤ length buffer.old }
+    ensures text { buffer.new ≡ put buffer.old at (least_text figures) }
+    ensures end { result ≡ at + length (least_text figures) }
 {
-    let Some((minutes, chain, fees)) = figures else {
-        return put_bytes(text, b"no open way\n");
-    };
-    put_field(text, b"least minutes ", minutes.into());
-    put_field(text, b" chain ", chain.into());
-    put_field(text, b" fees ", fees.into());
-    put_bytes(text, b"\n");
+    match figures {
+        Some((minutes, chain, fees)) => put_figures(buffer, at, minutes, chain, fees),
+        None => put_bytes(buffer, at, b"no open way\n"),
+    }
+}
+
+fn put_figures(buffer: &mut [u8], at: usize, minutes: u32, chain: u32, fees: u32) -> usize
+    requires { at + length (least_text (Some (minutes, chain, fees))) ≤ length buffer.old }
+    ensures text { buffer.new ≡ put buffer.old at (least_text (Some (minutes, chain, fees))) }
+    ensures end { result ≡ at + length (least_text (Some (minutes, chain, fees))) }
+{
+    let at = put_field(buffer, at, b"least minutes ", minutes as u64);
+    let at = put_field(buffer, at, b" chain ", chain as u64);
+    let at = put_field(buffer, at, b" fees ", fees as u64);
+    put_bytes(buffer, at, b"\n")
 }
 
 fn closed_count(steps: &[Step]) -> usize
@@ -139,52 +120,49 @@ fn closed_count(steps: &[Step]) -> usize
     steps.iter().filter(|step| step.closed).count()
 }
 
-fn put_crew(text: &mut Text, benches: u8)
-    requires { array_vec_len text.old + length (crew_line benches) ≤ listing_bytes }
-    ensures { text.new.items ≡ text.old.items ++ crew_line benches }
+fn put_crew(buffer: &mut [u8], benches: u8) -> usize
+    requires { length (crew_line benches) ≤ length buffer.old }
+    ensures text { buffer.new ≡ put buffer.old 0 (crew_line benches) }
+    ensures end { result ≡ length (crew_line benches) }
 {
-    put_field(text, b"crew ", benches.into());
-    put_bytes(text, b"\n");
+    let at = put_field(buffer, 0, b"crew ", benches as u64);
+    put_bytes(buffer, at, b"\n")
 }
 
-fn put_counts(text: &mut Text, all: usize, closed: usize)
-    requires { (array_vec_len text.old + length (count_line all closed) ≤ listing_bytes) × (closed ≤ all) }
-    ensures { text.new.items ≡ text.old.items ++ count_line all closed }
+fn put_counts(buffer: &mut [u8], at: usize, all: usize, closed: usize) -> usize
+    requires { (at + length (count_line all closed) ≤ length buffer.old) × (closed ≤ all) }
+    ensures text { buffer.new ≡ put buffer.old at (count_line all closed) }
+    ensures end { result ≡ at + length (count_line all closed) }
 {
-    put_field(text, b"steps ", all as u64);
-    put_field(text, b" open ", (all - closed) as u64);
-    put_field(text, b" closed ", closed as u64);
-    put_bytes(text, b"\n");
+    let at = put_field(buffer, at, b"steps ", all as u64);
+    let at = put_field(buffer, at, b" open ", (all - closed) as u64);
+    let at = put_field(buffer, at, b" closed ", closed as u64);
+    put_bytes(buffer, at, b"\n")
 }
 
-fn put_step(text: &mut Text, index: usize, step: &Step)
-    requires { array_vec_len text.old + length (step_line index step.now) ≤ listing_bytes }
-    ensures { text.new.items ≡ text.old.items ++ step_line index step.now }
+fn put_step(buffer: &mut [u8], at: usize, index: usize, step: &Step) -> usize
+    requires { at + length (step_line index step.now) ≤ length buffer.old }
+    ensures text { buffer.new ≡ put buffer.old at (step_line index step.now) }
+    ensures end { result ≡ at + length (step_line index step.now) }
 {
-    put_field(text, b"step ", index as u64);
-    put_target(text, step.target);
-    put_bytes(text, join_text(step.join));
-    put_amounts(text, step);
+    let at = put_field(buffer, at, b"step ", index as u64);
+    let at = put_target(buffer, at, step.target);
+    let at = put_bytes(buffer, at, join_text(step.join));
+    let at = put_field(buffer, at, b" minutes ", step.minutes as u64);
+    let at = put_field(buffer, at, b" fee ", step.fee as u64);
+    let at = put_bytes(buffer, at, state_text(step.closed));
+    put_bytes(buffer, at, b"\n")
 }
 
-fn put_amounts(text: &mut Text, step: &Step)
-    requires { array_vec_len text.old + length (amounts_text step.now) ≤ listing_bytes }
-    ensures { text.new.items ≡ text.old.items ++ amounts_text step.now }
-{
-    put_field(text, b" minutes ", step.minutes.into());
-    put_field(text, b" fee ", step.fee.into());
-    put_bytes(text, state_text(step.closed));
-    put_bytes(text, b"\n");
-}
-
-fn put_target(text: &mut Text, target: u16)
-    requires { array_vec_len text.old + length (target_text target) ≤ listing_bytes }
-    ensures { text.new.items ≡ text.old.items ++ target_text target }
+fn put_target(buffer: &mut [u8], at: usize, target: u16) -> usize
+    requires { at + length (target_text target) ≤ length buffer.old }
+    ensures text { buffer.new ≡ put buffer.old at (target_text target) }
+    ensures end { result ≡ at + length (target_text target) }
 {
     if target == NO_TARGET {
-        put_bytes(text, b" target none");
+        put_bytes(buffer, at, b" target none")
     } else {
-        put_field(text, b" target ", target.into());
+        put_field(buffer, at, b" target ", target as u64)
     }
 }
 

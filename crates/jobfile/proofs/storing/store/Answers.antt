@@ -1,49 +1,53 @@
 -- Each piece is put behind those before it; together they are the encoding.
-use Rattle.std.proofs.Common.{◌+◌, ◌*◌, ◌≤◌, ◌++◌, length, drop, sym, ap, ◌∙◌, arith}
-use Rattle.std.proofs.lemmas.List.{length-take-le}
+use Rattle.std.proofs.Common.{◌≡◌, ◌+◌, ◌*◌, length, get_or, take, Ok, sym, ap, ◌∙◌, arith}
+use Rattle.std.proofs.lemmas.List.{take_all}
+use Rattle.std.specs.List.{flat_map}
 use Rattle.steps.specs.Sheet.{sheet_of, blank}
+use Rattle.buffer.specs.Put.{put}
+use Rattle.job_format.specs.Encoding.{step_bytes, end_bytes}
 use Rattle.job_format.proofs.Encoded.{length_encoded}
-use Rattle.jobfile.proofs.Stored.{begun, length_begun, begun_more, all_written, too_short, long_enough}
+use Rattle.jobfile.proofs.Stored.{stored_more, stored_all, too_short, long_enough}
 use Rattle.jobfile.proofs.storing.store.Goals as goal
 
-pub returns-then-buffer-size : goal.returns-then-buffer-size
-returns-then-buffer-size c =
-    let t = too_short c.args.steps.now c.args.benches c.args.buffer.now c.if-buffer-size.true in
-    record { answer = t.0; after = t.1 }
-
-pub put_bytes-requires-in-loop-step : goal.put_bytes-requires-in-loop-step
-put_bytes-requires-in-loop-step c =
-    let so_far = length_begun c.args.steps.now c.args.benches c.loop-step.step-index c.loop-step.auto.step-index-end in
-    let room : length c.loop-step.file.items + length c.step_record.result ≤ 3594 = omega (arith, so_far, ap length c.loop-step.invariant, ap length c.step_record.ensures, c.requires, c.loop-step-test.true) in
-    (omega arith, room)
+pub returns-then-buffer-steps : goal.returns-then-buffer-steps
+returns-then-buffer-steps c =
+    let l = length_encoded (sheet_of c.args.steps.now c.args.benches) in
+    let t = too_short (sheet_of c.args.steps.now c.args.benches) c.args.buffer.now (omega (arith, l, c.if-buffer-steps.true)) in
+    record { answer = sym t.0; after = sym t.1 }
 
 pub loop-step-preserved : goal.loop-step-preserved
 loop-step-preserved c =
-    c.put_bytes-in-loop-step.ensures
-    ∙ ap (λ x. x ++ c.step_record.result) c.loop-step.invariant
-    ∙ ap (λ x. begun c.args.steps.now c.args.benches c.loop-step.step-index ++ x) c.step_record.ensures
-    ∙ begun_more c.args.steps.now c.args.benches c.loop-step.step-index blank c.loop-step-test.true
-
-pub put_bytes-requires-2 : goal.put_bytes-requires-2
-put_bytes-requires-2 c =
-    let so_far = length_begun c.args.steps.now c.args.benches c.loop-step.step-index c.loop-step.auto.step-index-end in
-    let room : length c.loop-step.file.items + 4 ≤ 3594 = omega (arith, so_far, ap length c.loop-step.invariant, c.requires, c.loop-step.auto.step-index-end) in
-    (omega arith, room)
-
-pub copy_from_slice-requires : goal.copy_from_slice-requires
-copy_from_slice-requires c =
-    let steps = c.args.steps.now in
-    let benches = c.args.benches in
-    let all = all_written steps benches c.loop-step.step-index _ _ c.loop-step-test.false c.loop-step.invariant c.put_bytes-2.ensures in
-    length-take-le (10 + 14 * length steps) c.args.buffer.now c.if-buffer-size.false ∙ sym (ap length (c.deref.ensures.0 ∙ all) ∙ length_encoded (sheet_of steps benches))
+    let i = c.loop-step.step-index in
+    let inv = c.loop-step.invariant in
+    let piece = c.step_record.ensures in
+    let next = step_bytes (get_or c.args.steps.now i blank) in
+    let m = stored_more c.put_bytes-at.new.buffer c.args.steps.now i blank c.loop-step-test.true (omega (arith, c.loop-step.auto.buffer, c.if-buffer-steps.false, c.loop-step-test.true, c.put_bytes-at.auto.buffer)) in (
+      omega (arith, c.put_bytes-at-in-loop-step.ensures.end, ap length piece, inv.0),
+      c.put_bytes-at-in-loop-step.ensures.text
+          ∙ ap (put c.loop-step.buffer c.loop-step.at) piece
+          ∙ ap (λ b. put b c.loop-step.at next) inv.1
+          ∙ ap (λ n. put (put c.put_bytes-at.new.buffer 6 (flat_map step_bytes (take i c.args.steps.now))) n next) inv.0
+          ∙ m,
+    )
 
 pub returns : goal.returns
 returns c =
     let steps = c.args.steps.now in
-    let benches = c.args.benches in
-    let all = all_written steps benches c.loop-step.step-index _ _ c.loop-step-test.false c.loop-step.invariant c.put_bytes-2.ensures in
-    let t = long_enough steps benches c.args.buffer.now c.if-buffer-size.false in
+    let b = c.args.buffer.now in
+    let i = c.loop-step.step-index in
+    let inv = c.loop-step.invariant in
+    let whole = take_all i steps c.loop-step-test.false in
+    let last : i ≡ length steps = omega (arith, c.loop-step.auto.step-index-end, c.loop-step-test.false) in
+    let all = stored_all b steps c.args.benches c.if-buffer-steps.false in
+    let l = length_encoded (sheet_of steps c.args.benches) in
+    let t = long_enough (sheet_of steps c.args.benches) b (omega (arith, l, c.if-buffer-steps.false)) in
     record {
-      answer = t.0;
-      after = ap (λ x. x ++ drop (10 + 14 * length steps) c.args.buffer.now) (c.copy_from_slice.ensures.after ∙ c.deref.ensures.0 ∙ all) ∙ t.1;
+      answer = ap Ok (omega (arith, c.put_bytes.ensures.end, inv.0, last, l)) ∙ sym t.0;
+      after = c.put_bytes.ensures.text
+          ∙ ap (λ x. put x c.loop-step.at end_bytes) inv.1
+          ∙ ap (λ n. put (put c.put_bytes-at.new.buffer 6 (flat_map step_bytes (take i steps))) n end_bytes) (inv.0 ∙ ap (λ n. 6 + 14 * n) last)
+          ∙ ap (λ ss. put (put c.put_bytes-at.new.buffer 6 (flat_map step_bytes ss)) (6 + 14 * length steps) end_bytes) whole
+          ∙ ap (λ x. put (put x 6 (flat_map step_bytes steps)) (6 + 14 * length steps) end_bytes) c.put_bytes-at.ensures.text
+          ∙ all
+          ∙ sym t.1;
     }

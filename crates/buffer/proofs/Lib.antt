@@ -1,0 +1,2 @@
+-- Lemmas on text in a buffer.
+pub mod Puts
