@@ -1,5 +1,5 @@
 -- The sheet of a file's contents.
-use Rattle.std.specs.Prelude.{◌≡◌, ℕ, ◌<◌, ◌≤◌, [], length, Ok, Err, Result}
+use Rattle.std.specs.Prelude.{◌≡◌, ℕ, ◌<◌, ◌≤◌, [], length, take, Ok, Err, Result}
 use Rattle.steps.specs.Limits.{max_steps}
 use Rattle.steps.specs.Sheet.{Sheet, sheet_of}
 use Rattle.job_format.specs.Layout.{kind, head_kind, step_kind}
@@ -9,7 +9,7 @@ use Rattle.jobfile.specs.declared.record.Record.{Record}
 use Rattle.jobfile.specs.Reading.{bytes_of, kind_of, fault_of}
 
 abbrev pub sheet_in : Contents → Sheet
-sheet_in c = sheet_of c.steps.items c.benches
+sheet_in c = sheet_of (take c.count c.steps) c.benches
 
 -- of a file of which nothing is read yet
 abbrev pub empty_sheet : Sheet

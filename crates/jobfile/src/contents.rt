@@ -1,5 +1,7 @@
 // What a job file holds.
-use arrayvec::ArrayVec;
+ghost use Rattle.std.specs.Prelude.{◌≡◌, ◌≤◌, length};
+ghost use Rattle.steps.specs.Limits.{max_steps};
+
 use steps::limits::MAX_STEPS;
 use steps::step::Step;
 
@@ -7,9 +9,12 @@ mod loading;
 
 pub use loading::load;
 
-// The benches of the head, and the steps.
-#[derive(Clone, Drop)]
+// The benches of the head, and the steps: the first `count` of the table; what stands behind them means nothing.
+#[derive(Clone, Copy)]
 pub struct Contents {
     pub benches: u8,
-    pub steps: ArrayVec<Step, MAX_STEPS>,
+    pub count: usize,
+    pub steps: [Step; MAX_STEPS],
+    ghost size: { length steps ≡ max_steps },
+    ghost counted: { count ≤ max_steps },
 }

@@ -1,14 +1,14 @@
 // A whole file, read record by record.
 ghost use Rattle.std.specs.Prelude.{◌≡◌, ◌<◌};
 ghost use Rattle.steps.specs.Limits.{max_steps};
-ghost use Rattle.arrayvec.specs.ArrayVec.{array_vec_len};
 ghost use Rattle.job_format.specs.Decoding.{benches_after, step_list_after, decode};
 ghost use Rattle.jobfile.specs.Reading.{bytes_of};
 ghost use Rattle.jobfile.specs.Loading.{sheet_in, told_load, Passed, empty_sheet};
 
 use super::Contents;
 use crate::record::{Fault, Reader, Record, step_in};
-use arrayvec::ArrayVec;
+use steps::limits::MAX_STEPS;
+use steps::step::Step;
 
 impl Contents {
     fn new() -> Contents
@@ -16,19 +16,24 @@ impl Contents {
     {
         Contents {
             benches: 0,
-            steps: ArrayVec::new(),
+            count: 0,
+            steps: [Step::default(); MAX_STEPS],
         }
     }
 
     // Takes in a record that passed: the benches of a head, one step more, or nothing.
     fn take_in(&mut self, record: Record)
-        requires { Passed (array_vec_len self.old.steps) «record» }
+        requires { Passed self.old.count «record» }
         ensures benches { (sheet_in self.new).benches ≡ benches_after (sheet_in self.old).benches (bytes_of «record».entry) }
         ensures steps { (sheet_in self.new).steps ≡ step_list_after (sheet_in self.old).steps (bytes_of «record».entry) }
     {
         match record {
             Record::Head(bytes) => self.benches = bytes[5],
-            Record::Step(bytes) => self.steps.push(step_in(bytes)),
+            Record::Step(bytes) => {
+                let at = self.count;
+                self.steps[at] = step_in(bytes);
+                self.count = at + 1;
+            }
             Record::Note(_) | Record::End(_) => {}
         }
     }

@@ -20,8 +20,13 @@ impl Issued {
         ensures after { issued_sheet self.new ≡ read_after (decode max_steps file.now) (issued_sheet self.old) }
         ensures faithful { Faithful result (issued_sheet self.new) file.now }
     {
-        let Contents { benches, steps } = load(file)?;
-        self.steps = steps;
+        let Contents {
+            benches,
+            count,
+            steps,
+        } = load(file)?;
+        self.steps.clear();
+        let _ = self.steps.try_extend_from_slice(&steps[..count]);
         self.benches = benches;
         Ok(())
     }

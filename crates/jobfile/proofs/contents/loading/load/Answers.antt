@@ -1,5 +1,6 @@
 -- Each answer of the reader says how the decoding of the whole file goes on.
 use Rattle.std.proofs.Common.{◌≡◌, ℕ, ◌-◌, ◌<◌, [], length, drop, Some, Ok, Err, Option, Result, sym, ap, ◌∙◌, subst, arith}
+use Rattle.std.proofs.lemmas.List.{length-take-le}
 use Rattle.std.proofs.lemmas.Result.{err_from_is_err_and}
 use Rattle.steps.specs.Limits.{max_steps}
 use Rattle.job_format.specs.declared.Stage.TheVariants.{Start}
@@ -30,8 +31,9 @@ pub take_in-requires : goal.take_in-requires
 take_in-requires c =
     let inv = c.loop-placed.invariant in
     let a = record_told _ _ _ c.in-Some.is c.in_ok-placed.ensures.answer in
+    let l = length-take-le c.loop-placed.contents.count c.loop-placed.contents.steps (omega (arith, c.loop-placed.contents.size, c.loop-placed.contents.counted)) in
     let f = passed_record max_steps _ (standing c.loop-placed.reader) _ (sheet_in c.loop-placed.contents).steps _ inv.1 inv.2 _ a (omega arith) in
-    subst (λ n. Passed n c.in-Some.placed.record) (sym inv.1) f
+    subst (λ n. Passed n c.in-Some.placed.record) (sym inv.1 ∙ l) f
 
 pub loop-placed-smaller : goal.loop-placed-smaller
 loop-placed-smaller c =
