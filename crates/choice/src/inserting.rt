@@ -11,7 +11,8 @@ pub fn insert<const N: usize>(list: &mut ArrayVec<u32, N>, x: u32)
     requires ascending { Ascending list.old.items }
     ensures { list.new.items ≡ insert x list.old.items }
 {
-    if let Err(place) = list.as_slice().binary_search(&x) {
-        list.insert(place, x);
+    match list.as_slice().binary_search(&x) {
+        Ok(_) => {}
+        Err(place) => list.insert(place, x),
     }
 }

@@ -17,6 +17,7 @@ impl Issued {
         if rows.len() < self.steps.len() {
             return Err(Refusal::TableTooShort);
         }
-        make_plan(self.steps(), self.benches, policy, rows).ok_or(Refusal::NoOpenWay)
+        let plan = make_plan(self.steps(), self.benches, policy, rows);
+        plan.ok_or(Refusal::NoOpenWay)
     }
 }

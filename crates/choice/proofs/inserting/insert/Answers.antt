@@ -11,8 +11,8 @@ returns-in-Err g c =
     let searched = subst (λ ys. IsBinarySearchResult (λ y. nat_cmp y x) ys (Err c.in-Err.place)) c.as_slice.ensures.value c.in-Err.ensures.position in
     c.insert.ensures.items ∙ inserted x c.args.list.now.items c.requires.ascending (Err c.in-Err.place) searched
 
-pub returns-in_default : goal.returns-in_default
-returns-in_default g c =
+pub returns-in-Ok : goal.returns-in-Ok
+returns-in-Ok g c =
     let x = c.args.x in
-    let searched = subst (λ ys. IsBinarySearchResult (λ y. nat_cmp y x) ys (Ok c.in_default.field-0)) c.as_slice.ensures.value c.in_default.ensures.position in
-    inserted x c.args.list.now.items c.requires.ascending (Ok c.in_default.field-0) searched
+    let searched = subst (λ ys. IsBinarySearchResult (λ y. nat_cmp y x) ys (Ok c.in-Ok.field-0)) c.as_slice.ensures.value c.in-Ok.ensures.position in
+    inserted x c.args.list.now.items c.requires.ascending (Ok c.in-Ok.field-0) searched

@@ -20,7 +20,7 @@ returns g c =
     let p = g.P.Policy.placing c.args.policy.now in
     let before = c.args.rows.now in
     let room = le-ltb (length before) (length d.steps.items) (omega (arith, c.len.ensures.value, c.if-rows-len.false)) in
-    let made = c.make_plan.ensures in
-    promised p (issued_sheet d) d.sound.descending (omega (arith, d.sound.crewed.0)) before c.make_plan.new.rows _
+    let made = c.make_plan-plan.ensures in
+    promised p (issued_sheet d) d.sound.descending (omega (arith, d.sound.crewed.0)) before c.make_plan-plan.new.rows _
     (told_or _ _ c.ok_or.ensures.value ∙ ap plan_or_none (made.answer ∙ ap (plan_of p d.benches) c.steps.ensures.value) ∙ sym (cond-false _ _ _ room))
     (made.rows ∙ ap (λ us. written (rows_of p d.benches us) before) c.steps.ensures.value ∙ sym (cond-false _ _ _ room))
