@@ -1,4 +1,3 @@
-mod Made
 mod Places
 mod Picking
 mod Amounts

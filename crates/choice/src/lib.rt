@@ -3,7 +3,7 @@
 
 ghost use Rattle.std.specs.Prelude.{◌≡◌, ℕ, ◌<◌, ◌≤◌, false, length, slice_index_or};
 ghost use Rattle.arrayvec.specs.ArrayVec.{array_vec_len};
-ghost use Rattle.steps.specs.Limits.{max_benches};
+ghost use Rattle.steps.specs.Limits.{max_benches, max_steps};
 ghost use Rattle.steps.specs.Sheet.{step};
 ghost use Rattle.plans.specs.Limited.{at_limit, taken_at};
 ghost use Rattle.plans.specs.Limits.{limits as limits_of};
@@ -95,6 +95,7 @@ fn consider(benches: u8, limit: u32, sums: Option<Sums>, best: Option<Plan>) -> 
 // Whether step `k` is on the way, where those of lower number are marked.
 fn comes_along(steps: &[Step], table: &[Entry], way: &[bool], k: usize) -> bool
     requires within { k < length steps.now }
+    requires few { length steps.now ≤ max_steps }
     requires low { (step steps.now k).target < k }
     requires table { length steps.now ≤ length table.now }
     requires way { length steps.now ≤ length way.now }
@@ -104,6 +105,6 @@ fn comes_along(steps: &[Step], table: &[Entry], way: &[bool], k: usize) -> bool
     way[target]
         && match steps[target].join {
             Join::And => true,
-            Join::Or => table[target].feeder == Some(k),
+            Join::Or => table[target].feeder == Some(k as u16),
         }
 }

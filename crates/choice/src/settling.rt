@@ -13,29 +13,42 @@ ghost use Rattle.choice.specs.Entries.{Within, grown, fold_entry, start_entry, S
 use crate::leaves::is_leaf;
 use paths::Paths;
 use plans::Sums;
-use std::array;
 use steps::limits::MAX_STEPS;
 use steps::step::{Join, Step};
 
-// The sums of a step, made from those of its feeders; and the feeder that an OR step takes, if it takes one.
+// The sums of a step, made from those of its feeders; and the feeder that an OR step takes, if it takes one. Its number is kept in
+// 16 bits, as in a step's target: a table of 256 entries is made anew at every limit, and is the half of one with numbers of 64 bits.
 #[derive(Clone, Copy)]
 pub struct Entry {
     pub sums: Option<Sums>,
-    pub feeder: Option<usize>,
+    pub feeder: Option<u16>,
 }
 
 // Settles all steps.
 pub fn settle_all(paths: &Paths, limit: u32) -> [Entry; MAX_STEPS]
     ensures { Settled limit paths.now.steps.now 0 result }
 {
-    let steps = paths.steps;
-    // no entry behind the steps is read, so any join will do there
-    let mut table = array::from_fn(|i| start(steps.get(i).map_or(Join::Or, |step| step.join)));
+    let mut table = [Entry {
+        sums: None,
+        feeder: None,
+    }; MAX_STEPS];
+    begin(paths, limit, &mut table);
     // by numbers, since settling a step also writes the entry of its target
-    for i in (0..steps.len()).rev() {
+    for i in (0..paths.steps.len()).rev() {
         settle(paths, limit, &mut table, i);
     }
     table
+}
+
+// Begins the entries of all steps; no entry behind them is read. Not by `from_fn`: that works out all 256 at every limit, however few
+// the steps are.
+fn begin(paths: &Paths, limit: u32, table: &mut [Entry])
+    requires { length paths.now.steps.now ≤ length table.old }
+    ensures { Settled limit paths.now.steps.now (length paths.now.steps.now) table.new }
+{
+    for (i, step) in paths.steps.iter().enumerate() {
+        table[i] = start(step.join);
+    }
 }
 
 // Settles step `i`, into which all its feeders are folded, and folds it into its target.
@@ -51,7 +64,7 @@ fn settle(paths: &Paths, limit: u32, table: &mut [Entry], i: usize)
     table[i].sums = sums;
     if i > 0 {
         let target = steps[i].target as usize;
-        table[target] = fold(steps[target].join, i, sums, table[target]);
+        table[target] = fold(steps[target].join, i as u16, sums, table[target]);
     }
 }
 
@@ -92,7 +105,7 @@ fn finish(minutes: u16, closed: bool, so_far: Option<Sums>) -> Option<Sums>
 }
 
 // A step with one feeder more, the next one in descending order.
-fn fold(join: Join, number: usize, feeder: Option<Sums>, so_far: Entry) -> Entry
+fn fold(join: Join, number: u16, feeder: Option<Sums>, so_far: Entry) -> Entry
     requires { Within (folded both join feeder so_far.sums) }
     ensures { result ≡ fold_entry join number feeder so_far }
 {

@@ -42,12 +42,13 @@ impl<'a> Job<'a> {
         waiting
     }
 
-    // The steps that are ready, ascending.
-    pub(super) fn ready(&self, run: &Run) -> ArrayVec<Ready, MAX_STEPS>
-        ensures { result.items ≡ ready_by self.now.paths.now.steps.now self.now.paths.now.tails self.now.way.now run.now.time run.now.ends }
+    // Lists the steps that are ready, ascending, in place of what the list held. It is lent, since a new one would be made whole,
+    // 256 places, at every turn.
+    pub(super) fn list_ready(&self, run: &Run, ready: &mut ArrayVec<Ready, MAX_STEPS>)
+        ensures { ready.new.items ≡ ready_by self.now.paths.now.steps.now self.now.paths.now.tails self.now.way.now run.now.time run.now.ends }
     {
         let waiting = self.waiting(run);
-        let mut ready = ArrayVec::new();
+        ready.clear();
         for (i, step) in self.paths.steps.iter().enumerate() {
             if may_begin(self.way[i], run.ends[i], waiting[i]) {
                 ready.push(Ready {
@@ -57,7 +58,6 @@ impl<'a> Job<'a> {
                 });
             }
         }
-        ready
     }
 }
 

@@ -12,6 +12,7 @@ ghost use Rattle.dispatch.specs.Running.{state, Tracked, chosen, next_row};
 use super::Job;
 use super::looking::{lowest_free, next_end};
 use crate::run::Run;
+use arrayvec::ArrayVec;
 use paths::Paths;
 use policies::Policy;
 use steps::limits::MAX_STEPS;
@@ -44,23 +45,34 @@ fn begin(run: &mut Run, rows: &mut [Row], row: Row)
 
 impl<'a> Job<'a> {
     // The ready step that the policy names; it is asked only where one is ready.
-    fn choose<P: Policy>(&self, policy: &P, run: &Run) -> Option<Ready>
+    fn choose<P: Policy>(
+        &self,
+        policy: &P,
+        run: &Run,
+        ready: &mut ArrayVec<Ready, MAX_STEPS>,
+    ) -> Option<Ready>
         ensures { result ≡ chosen (P.Policy.placing policy.now) (ready_by self.now.paths.now.steps.now self.now.paths.now.tails self.now.way.now run.now.time run.now.ends) }
     {
-        let ready = self.ready(run);
+        self.list_ready(run, ready);
         if ready.is_empty() {
             return None;
         }
-        Some(ready[policy.pick(&ready)])
+        Some(ready[policy.pick(ready)])
     }
 
     // The row of the step that begins now, if one does. `rows` are those written so far.
-    fn next_row<P: Policy>(&self, policy: &P, run: &Run, rows: &[Row]) -> Option<Row>
+    fn next_row<P: Policy>(
+        &self,
+        policy: &P,
+        run: &Run,
+        rows: &[Row],
+        ready: &mut ArrayVec<Ready, MAX_STEPS>,
+    ) -> Option<Row>
         requires early { run.now.time ≤ max_steps * max_minutes }
         ensures { result ≡ next_row run.now.time (chosen (P.Policy.placing policy.now) (ready_by self.now.paths.now.steps.now self.now.paths.now.tails self.now.way.now run.now.time run.now.ends)) (free self.now.benches (moment run.now.time rows.now)) }
     {
         let bench = lowest_free(rows, self.benches, run.time)?;
-        let ready = self.choose(policy, run)?;
+        let ready = self.choose(policy, run, ready)?;
         Some(Row {
             step: ready.step,
             bench,
@@ -70,7 +82,13 @@ impl<'a> Job<'a> {
     }
 
     // One turn: a step begins, or the time goes on to the next end.
-    fn turn<P: Policy>(&self, policy: &P, run: &mut Run, rows: &mut [Row])
+    fn turn<P: Policy>(
+        &self,
+        policy: &P,
+        run: &mut Run,
+        rows: &mut [Row],
+        ready: &mut ArrayVec<Ready, MAX_STEPS>,
+    )
         requires way { Way self.now.paths.now.steps.now (members self.now.way.now) }
         requires room { length self.now.paths.now.steps.now ≤ length rows.old }
         requires count { run.old.count ≤ length rows.old }
@@ -82,7 +100,7 @@ impl<'a> Job<'a> {
         ensures more { run.old.count ≤ run.new.count }
         ensures kept { drop run.new.count rows.new ≡ drop run.new.count rows.old }
     {
-        match self.next_row(policy, run, &rows[..run.count]) {
+        match self.next_row(policy, run, &rows[..run.count], ready) {
             Some(row) => begin(run, rows, row),
             None => {
                 if let Some(end) = next_end(&rows[..run.count], run.time) {
@@ -104,8 +122,9 @@ impl<'a> Job<'a> {
         ensures count { run.new.count ≤ length rows.new }
         ensures kept { drop run.new.count rows.new ≡ drop run.new.count rows.old }
     {
+        let mut ready = ArrayVec::new();
         for _turns in 0..2 * self.paths.steps.len() {
-            self.turn(policy, run, rows);
+            self.turn(policy, run, rows, &mut ready);
         }
     }
 }

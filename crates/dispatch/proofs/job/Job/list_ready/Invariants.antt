@@ -3,7 +3,7 @@ use Rattle.std.proofs.Common.{◌≡◌, ◌≤◌, ◌++◌, length, get_or, dr
 use Rattle.schedules.specs.Dispatch.{ready_among, readies}
 use Rattle.dispatch.specs.Members.{members}
 use Rattle.dispatch.specs.Tracking.{started_by, done_by, ready_by}
-use Rattle.dispatch.proofs.job.Job.ready.Given as goal
+use Rattle.dispatch.proofs.job.Job.list_ready.Given as goal
 
 abbrev pub invariant-loop-i : goal.invariant-loop-i
 invariant-loop-i l =

@@ -5,14 +5,14 @@ use Rattle.schedules.specs.Dispatch.{ready_among, readies}
 use Rattle.dispatch.specs.Members.{members}
 use Rattle.dispatch.specs.Tracking.{started_by, done_by}
 use Rattle.dispatch.proofs.Listing.{listed_more, listed_same, not_waiting}
-use Rattle.dispatch.proofs.job.Job.ready.Goals as goal
-use Rattle.dispatch.proofs.job.Job.ready.Goals.{then-may_begin, else-may_begin}
+use Rattle.dispatch.proofs.job.Job.list_ready.Goals as goal
+use Rattle.dispatch.proofs.job.Job.list_ready.Goals.{then-may_begin, else-may_begin}
 
 pub loop-i-init : goal.loop-i-init
 loop-i-init c =
     let ss = c.args.self.now.paths.now.steps.now in
     let test = ready_among ss (members c.args.self.now.way.now) (started_by c.args.run.now.ends) (done_by c.args.run.now.time c.args.run.now.ends) in
-    (omega (arith, ap length c.new-ready.ensures), ap (λ xs. xs ++ readies test (λ k. get_or c.args.self.now.paths.now.tails k 0) 0 ss) c.new-ready.ensures)
+    (omega (arith, ap length c.clear.ensures), ap (λ xs. xs ++ readies test (λ k. get_or c.args.self.now.paths.now.tails k 0) 0 ss) c.clear.ensures)
 
 pub push-requires : goal.push-requires
 push-requires c =
