@@ -53,7 +53,8 @@ fn entry<M: Measure>(measure: &M, least: Option<M::Figure>) -> Entry<M::Figure>
 {
     Entry {
         found: least.is_some(),
-        figure: least.unwrap_or(measure.empty()),
+        // asked for only where it is wanted, since a measure may have to work it out
+        figure: least.unwrap_or_else(|| measure.empty()),
     }
 }
 

@@ -25,10 +25,13 @@ impl Measure for CounterMeasure {
         0
     }
 
+    // Both are worked out and one is chosen, so that no step of a pass waits for a branch.
     fn join(&self, a: u32, b: u32) -> u32 {
+        let sum = a.saturating_add(b);
+        let greater = a.max(b);
         match self {
-            CounterMeasure::Minutes | CounterMeasure::Fees => a.saturating_add(b),
-            CounterMeasure::Chain => a.max(b),
+            CounterMeasure::Minutes | CounterMeasure::Fees => sum,
+            CounterMeasure::Chain => greater,
         }
     }
 

@@ -4,4 +4,4 @@ use Rattle.measures.specs.Counter.{meaning_of}
 use Rattle.measures.proofs.counter.CounterMeasureMeasure.join.Goals as goal
 
 pub returns-in-Chain : goal.returns-in-Chain
-returns-in-Chain c = c.max.ensures ∙ sym (ap (λ m. (meaning_of m).joins c.args.a c.args.b) c.in-Chain.is)
+returns-in-Chain c = c.max-greater.ensures ∙ sym (ap (λ m. (meaning_of m).joins c.args.a c.args.b) c.in-Chain.is)
