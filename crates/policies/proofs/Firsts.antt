@@ -11,10 +11,10 @@ use Rattle.policies.specs.Places.{entry, unbeaten, best, Leads}
 use Rattle.policies.specs.Found.{none_before}
 
 module _ (beats : Ready → Ready → Bool) (rs : List Ready) where
-  pub leads_best : (at : ℕ) → at ≤ length rs - 1 → Leads beats rs (length rs) at → at ≡ best beats rs
-  leads_best at inside l =
-      sym (position_or_len_is (unbeaten beats rs) rs at no_ready (omega arith)
-      (λ k h. not_from_true _ (list_any_at (λ s. beats s (entry rs k)) rs at no_ready (omega arith) (l.before k h)))
+  pub leads_best : (at : ℕ) → Leads beats rs (length rs) at → at ≡ best beats rs
+  leads_best at l =
+      sym (position_or_len_is (unbeaten beats rs) rs at no_ready (omega (arith, l.inside))
+      (λ k h. not_from_true _ (list_any_at (λ s. beats s (entry rs k)) rs at no_ready (omega (arith, l.inside)) (l.before k h)))
       (λ h. none_before beats rs at l.unbeaten))
 
 module _ (p : Ready → Bool) (rs : List Ready) where

@@ -1,5 +1,5 @@
 -- Which place of a list of ready steps a rule names.
-use Rattle.std.specs.Prelude.{◌≡◌, ℕ, ◌<◌, Bool, true, false, cond, not, List, length, slice_index_or}
+use Rattle.std.specs.Prelude.{◌≡◌, ℕ, ◌-◌, ◌<◌, ◌≤◌, Bool, true, false, cond, not, List, length, slice_index_or}
 use Rattle.std.proofs.Common.{Bor}
 use Rattle.std.specs.Fn.{Shared, AnyResult}
 use Rattle.std.specs.List.{list_any, position_or_len}
@@ -31,8 +31,10 @@ best beats rs = position_or_len (unbeaten beats rs) rs
 abbrev pub in_order : (List Ready → ℕ) → List Ready → ℕ
 in_order rule rs = cond (rising rs) (rule rs) 0
 
--- of the first i entries none comes before the one at place `at`, and that one comes before all that stand before it
+-- of the first i entries none comes before the one at place `at`, which is among them, and that one comes before all that stand
+-- before it
 pub record Leads (beats : Ready → Ready → Bool) (rs : List Ready) (i at : ℕ) : Type 0 where
+  pub inside : at ≤ i - 1
   pub unbeaten : (k : ℕ) → k < i → beats (entry rs k) (entry rs at) ≡ false
   pub before : (k : ℕ) → k < at → beats (entry rs at) (entry rs k) ≡ true
 

@@ -10,6 +10,6 @@ returns g c beats strict says =
     let at = c.loop-i.best in
     let leads : Leads beats rs (length rs) at = subst (λ n. Leads beats rs n at) (omega arith) (c.loop-i.invariant.1 beats strict says) in
     record {
-      place = leads_best beats rs at (omega (arith, c.loop-i.invariant.0)) leads ∙ sym (cond-true _ _ _ (sym c.if-not-rises.ensures));
+      place = leads_best beats rs at leads ∙ sym (cond-true _ _ _ (sym c.if-not-rises.ensures));
       leads = λ up. leads;
     }
