@@ -12,7 +12,7 @@ pub fn insert<const N: usize>(list: &mut ArrayVec<u32, N>, x: u32)
     ensures { list.new.items ≡ insert x list.old.items }
 {
     match list.as_slice().binary_search(&x) {
-        Ok(_) => {}
+        Ok(_found) => {}
         Err(place) => list.insert(place, x),
     }
 }

@@ -14,5 +14,5 @@ returns-in-Err g c =
 pub returns-in-Ok : goal.returns-in-Ok
 returns-in-Ok g c =
     let x = c.args.x in
-    let searched = subst (λ ys. IsBinarySearchResult (λ y. nat_cmp y x) ys (Ok c.in-Ok.field-0)) c.as_slice.ensures.value c.in-Ok.ensures.position in
-    inserted x c.args.list.now.items c.requires.ascending (Ok c.in-Ok.field-0) searched
+    let searched = subst (λ ys. IsBinarySearchResult (λ y. nat_cmp y x) ys (Ok c.in-Ok._found)) c.as_slice.ensures.value c.in-Ok.ensures.position in
+    inserted x c.args.list.now.items c.requires.ascending (Ok c.in-Ok._found) searched

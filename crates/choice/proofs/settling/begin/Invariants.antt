@@ -1,5 +1,5 @@
 -- The first entries are begun.
-use Rattle.std.proofs.Common.{◌≡◌, ℕ, ◌<◌, length, get_or}
+use Rattle.std.proofs.Common.{◌≡◌, ℕ, ◌<◌, get_or}
 use Rattle.steps.specs.Sheet.{step}
 use Rattle.choice.specs.Entries.{blank_entry, start_entry}
 use Rattle.choice.proofs.settling.begin.Given as goal
