@@ -1,2 +1,3 @@
 -- Lemmas on text in a buffer.
+pub mod Digits
 pub mod Puts

@@ -1,6 +1,6 @@
 -- Laws of bytes written into a buffer.
-use Rattle.std.proofs.Common.{◌≡◌, ℕ, ◌+◌, ◌≤◌, List, [], ◌++◌, length, take, drop, sym, ap, ◌∙◌, append_assoc, add-zero, add_assoc, zero-add, arith, length-append, length-drop}
-use Rattle.std.proofs.lemmas.List.{take-append-drop, length-take-le, take_at, drop_at, drop-drop}
+use Rattle.std.proofs.Common.{◌≡◌, ℕ, ◌+◌, ◌<◌, ◌≤◌, List, [], ◌∷◌, ◌++◌, length, take, drop, set, sym, ap, ◌∙◌, append_assoc, add-zero, add_assoc, zero-add, add-one, arith, length-append, length-drop}
+use Rattle.std.proofs.lemmas.List.{take-append-drop, length-take-le, take_at, drop_at, drop-drop, set_split}
 use Rattle.buffer.specs.Put.{put}
 
 -- what stands before the end of the bytes
@@ -43,6 +43,10 @@ put_put xs at ys zs n e h =
     ∙ ap (λ l. (take at xs ++ ys) ++ (zs ++ l)) past
     ∙ append_assoc (take at xs) ys (zs ++ drop (at + length (ys ++ zs)) xs)
     ∙ ap (λ l. take at xs ++ l) (sym (append_assoc ys zs (drop (at + length (ys ++ zs)) xs)))
+
+-- one byte
+pub set_put : (xs : List ℕ) (at y : ℕ) → at < length xs → set xs at y ≡ put xs at (y ∷ [])
+set_put xs at y h = set_split xs at y h ∙ ap (λ k. take at xs ++ y ∷ drop k xs) (sym (add-one at))
 
 -- What is written so far from the place at on, where the next piece goes behind it.
 pub record Written (buffer : List ℕ) (at : ℕ) (so_far : List ℕ) (after : List ℕ) (behind : ℕ) : Type 0 where

@@ -21,6 +21,11 @@ pub fn put_number(buffer: &mut [u8], at: usize, n: u64) -> usize
     ensures text { buffer.new ≡ put buffer.old at (decimal n) }
     ensures end { result ≡ at + length (decimal n) }
 {
+    // a number of one digit, as many of a sheet are, is quicker written than formatted and copied
+    if n < 10 {
+        buffer[at] = 48 + n as u8;
+        return at + 1;
+    }
     let mut digits = itoa::Buffer::new();
     put_bytes(buffer, at, digits.format(n).as_bytes())
 }
