@@ -25,7 +25,7 @@ impl Measure for CounterMeasure {
         0
     }
 
-    // Both are worked out and one is chosen, so that no step of a pass waits for a branch.
+    // Both are worked out and then one is chosen: a pass over the steps was measured to take less time so.
     fn join(&self, a: u32, b: u32) -> u32 {
         let sum = a.saturating_add(b);
         let greater = a.max(b);
